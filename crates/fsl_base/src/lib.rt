@@ -1,0 +1,15 @@
+//! What every crate stands on: lists, boxes and texts that contracts see as plain values, places in a
+//! file, and the outside of the program (a shelf of files, a sink, a gate).
+#![tactic(auto)]
+
+mod boxed;
+mod clone;
+mod list;
+mod span;
+mod text;
+
+pub use boxed::Boxed;
+pub use clone::{Same, TryClone};
+pub use list::List;
+pub use span::Span;
+pub use text::Text;
