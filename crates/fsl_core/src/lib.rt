@@ -1,0 +1,21 @@
+//! What the other crates speak of: the checked program, its labels and moves, kinds of failure and
+//! verdicts as types, and in `specs/` the rules of the logic as definitions.
+#![tactic(auto)]
+
+mod act;
+mod assertion;
+mod expr;
+mod label;
+mod mode;
+mod need;
+mod program;
+mod verdict;
+
+pub use act::{Act, Called, Step, Stmt};
+pub use assertion::{Asrt, Inst, Pat};
+pub use expr::{CmpOp, Cond, Expr, Part};
+pub use label::{Ended, Label};
+pub use mode::{AllocKind, Mode, Rung};
+pub use need::{Need, Reply, RmwOp, Standing, Started};
+pub use program::{Inv, Proc, Program};
+pub use verdict::{Kind, Mood, Outcome, Verdict};
