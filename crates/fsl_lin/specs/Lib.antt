@@ -1,0 +1,3 @@
+pub mod Combination
+pub mod Sign
+pub mod Walks
