@@ -4,6 +4,7 @@
 
 mod act;
 mod assertion;
+mod chunk;
 mod expr;
 mod label;
 mod mode;
@@ -13,6 +14,7 @@ mod verdict;
 
 pub use act::{Act, Called, Step, Stmt};
 pub use assertion::{Asrt, Inst, Pat};
+pub use chunk::Chunk;
 pub use expr::{CmpOp, Cond, Expr, Part};
 pub use label::{Ended, Label};
 pub use mode::{AllocKind, Mode, Rung};
