@@ -1,0 +1,237 @@
+//! What a token is: the reserved words and symbols of the language, names and numbers.
+ghost use Rattle.std.specs.Prelude.{◌≡◌, option_map};
+ghost use Rattle.fsl_token.specs.Words.{fixed_text};
+
+use fsl_base::Span;
+
+/// What stands in the file: a reserved word, a symbol, a name that isn't reserved, or a number. Those
+/// named `..Assertion` are the words with a capital, which begin assertions.
+#[derive(Clone, Copy, Debug, PartialEq, Eq)]
+pub enum TokenKind {
+    /// `acq`
+    Acq,
+    /// `acqrel`
+    AcqRel,
+    /// `alloc`
+    Alloc,
+    /// `assert`
+    Assert,
+    /// `bank`
+    Bank,
+    /// `burn`
+    Burn,
+    /// `call`
+    Call,
+    /// `cas`
+    Cas,
+    /// `down`
+    Down,
+    /// `else`
+    Else,
+    /// `emp`
+    Emp,
+    /// `ensures`
+    Ensures,
+    /// `exchange`
+    Exchange,
+    /// `false`
+    False,
+    /// `fence`
+    Fence,
+    /// `fetch_add`
+    FetchAdd,
+    /// `free`
+    Free,
+    /// `if`
+    If,
+    /// `inv`
+    Inv,
+    /// `let`
+    Let,
+    /// `load`
+    Load,
+    /// `mint`
+    Mint,
+    /// `na`
+    Na,
+    /// `of`
+    Of,
+    /// `par`
+    Par,
+    /// `pred`
+    Pred,
+    /// `print`
+    Print,
+    /// `proc`
+    Proc,
+    /// `rel`
+    Rel,
+    /// `requires`
+    Requires,
+    /// `result`
+    ResultWord,
+    /// `return`
+    Return,
+    /// `rlx`
+    Rlx,
+    /// `rmw`
+    Rmw,
+    /// `store`
+    Store,
+    /// `true`
+    True,
+    /// `up`
+    Up,
+    /// `while`
+    While,
+    /// `with`
+    With,
+    /// `Acq`
+    AcqAssertion,
+    /// `Auth`
+    AuthAssertion,
+    /// `Init`
+    InitAssertion,
+    /// `Rel`
+    RelAssertion,
+    /// `RmwAcq`
+    RmwAcqAssertion,
+    /// `Tok`
+    TokAssertion,
+    /// `&*&`
+    Separate,
+    /// `|->`
+    PointsTo,
+    /// `==`
+    Equal,
+    /// `!=`
+    NotEqual,
+    /// `<=`
+    AtMost,
+    /// `>=`
+    AtLeast,
+    /// `<`
+    Less,
+    /// `>`
+    Greater,
+    /// `=`
+    Assign,
+    /// `+`
+    Plus,
+    /// `-`
+    Minus,
+    /// `*`
+    Star,
+    /// `?`
+    Question,
+    /// `_`
+    Underscore,
+    /// `(`
+    OpenParen,
+    /// `)`
+    CloseParen,
+    /// `{`
+    OpenBrace,
+    /// `}`
+    CloseBrace,
+    /// `[`
+    OpenBracket,
+    /// `]`
+    CloseBracket,
+    /// `,`
+    Comma,
+    /// `;`
+    Semicolon,
+    /// A name that isn't reserved, of at most 64 bytes.
+    Name,
+    /// A number from 0 to 9223372036854775808.
+    Number,
+}
+
+impl TokenKind {
+    /// The text that every token of this kind has; `None` for names and numbers.
+    pub fn fixed_text(self) -> Option<&'static str>
+        ensures { option_map (λ text. text.now) result ≡ fixed_text self }
+    {
+        let text = match self {
+            TokenKind::Acq => "acq",
+            TokenKind::AcqRel => "acqrel",
+            TokenKind::Alloc => "alloc",
+            TokenKind::Assert => "assert",
+            TokenKind::Bank => "bank",
+            TokenKind::Burn => "burn",
+            TokenKind::Call => "call",
+            TokenKind::Cas => "cas",
+            TokenKind::Down => "down",
+            TokenKind::Else => "else",
+            TokenKind::Emp => "emp",
+            TokenKind::Ensures => "ensures",
+            TokenKind::Exchange => "exchange",
+            TokenKind::False => "false",
+            TokenKind::Fence => "fence",
+            TokenKind::FetchAdd => "fetch_add",
+            TokenKind::Free => "free",
+            TokenKind::If => "if",
+            TokenKind::Inv => "inv",
+            TokenKind::Let => "let",
+            TokenKind::Load => "load",
+            TokenKind::Mint => "mint",
+            TokenKind::Na => "na",
+            TokenKind::Of => "of",
+            TokenKind::Par => "par",
+            TokenKind::Pred => "pred",
+            TokenKind::Print => "print",
+            TokenKind::Proc => "proc",
+            TokenKind::Rel => "rel",
+            TokenKind::Requires => "requires",
+            TokenKind::ResultWord => "result",
+            TokenKind::Return => "return",
+            TokenKind::Rlx => "rlx",
+            TokenKind::Rmw => "rmw",
+            TokenKind::Store => "store",
+            TokenKind::True => "true",
+            TokenKind::Up => "up",
+            TokenKind::While => "while",
+            TokenKind::With => "with",
+            TokenKind::AcqAssertion => "Acq",
+            TokenKind::AuthAssertion => "Auth",
+            TokenKind::InitAssertion => "Init",
+            TokenKind::RelAssertion => "Rel",
+            TokenKind::RmwAcqAssertion => "RmwAcq",
+            TokenKind::TokAssertion => "Tok",
+            TokenKind::Separate => "&*&",
+            TokenKind::PointsTo => "|->",
+            TokenKind::Equal => "==",
+            TokenKind::NotEqual => "!=",
+            TokenKind::AtMost => "<=",
+            TokenKind::AtLeast => ">=",
+            TokenKind::Less => "<",
+            TokenKind::Greater => ">",
+            TokenKind::Assign => "=",
+            TokenKind::Plus => "+",
+            TokenKind::Minus => "-",
+            TokenKind::Star => "*",
+            TokenKind::Question => "?",
+            TokenKind::Underscore => "_",
+            TokenKind::OpenParen => "(",
+            TokenKind::CloseParen => ")",
+            TokenKind::OpenBrace => "{",
+            TokenKind::CloseBrace => "}",
+            TokenKind::OpenBracket => "[",
+            TokenKind::CloseBracket => "]",
+            TokenKind::Comma => ",",
+            TokenKind::Semicolon => ";",
+            TokenKind::Name | TokenKind::Number => return None,
+        };
+        Some(text)
+    }
+}
+
+/// A token at its place in the file.
+#[derive(Clone, Copy, Debug, PartialEq, Eq)]
+pub struct Token {
+    pub kind: TokenKind,
+    pub span: Span,
+    /// The value of a number; 0 for every other kind.
+    pub number: u64,
+}
