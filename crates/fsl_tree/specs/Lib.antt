@@ -1,0 +1,5 @@
+pub mod SpelledExpressions
+pub mod SpelledAssertions
+pub mod SpelledStatements
+pub mod Spelling
+pub mod Nesting
