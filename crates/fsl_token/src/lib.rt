@@ -3,6 +3,7 @@
 
 mod fault;
 mod kind;
+mod piece;
 mod place;
 
 pub use fault::LexFault;
