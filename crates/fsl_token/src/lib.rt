@@ -1,11 +1,13 @@
 //! Cuts the bytes of a program file into tokens, and tells lines and columns.
 #![tactic(auto)]
 
+mod cutting;
 mod fault;
 mod kind;
 mod piece;
-mod place;
+mod places;
 
+pub use cutting::lex;
 pub use fault::LexFault;
 pub use kind::{Token, TokenKind};
-pub use place::Place;
+pub use places::Place;

@@ -50,9 +50,9 @@ impl Piece {
         if bytes[0].is_ascii_digit() {
             return Piece::number(text);
         }
-        let name_len = name_len(text);
-        if name_len > 0 {
-            return Piece::name(&bytes[..name_len]);
+        let name = leading_name(text);
+        if !name.is_empty() {
+            return Piece::name(name);
         }
         Piece::symbol(text)
     }
@@ -137,6 +137,14 @@ fn starts_name(c: char) -> bool
     ensures { result ≡ starts_name c }
 {
     unicode_ident::is_xid_start(c) | (c == '_')
+}
+
+// The name that begins the text; empty where none does.
+fn leading_name(text: &str) -> &[u8]
+    ensures { result.now ≡ leading_name text.now }
+{
+    let (name, _) = text.as_bytes().split_at(name_len(text));
+    name
 }
 
 // How many bytes the name has that begins the text; 0 where none does.
