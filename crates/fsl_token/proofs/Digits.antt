@@ -1,5 +1,5 @@
 -- Numbers that begin a text.
-use Rattle.std.proofs.Common.{◌≡◌, ℕ, ◌+◌, ◌-◌, ◌<◌, ◌≤◌, ◌^◌, Bool, true, false, cond, List, [], ◌∷◌, length, take, get_or, refl, sym, ap, ◌∙◌, subst, arith, ⊎_elim, get_or-take}
+use Rattle.std.proofs.Common.{◌≡◌, ℕ, ◌+◌, ◌-◌, ◌<◌, ◌≤◌, ◌^◌, Bool, true, false, cond, List, [], ◌∷◌, length, take, get_or, refl, sym, ap, ◌∙◌, subst, arith, nat_le, ⊎_elim, get_or-take}
 use Rattle.std.specs.Prelude.{Result, Ok, Err}
 use Rattle.std.specs.Result.{OkIff}
 use Rattle.std.specs.Int.{IsInRange}
@@ -17,7 +17,7 @@ use Rattle.fsl_token.specs.declared.piece.Piece.{Piece}
 use Rattle.fsl_token.specs.Tokens.{leading_digits, number_piece}
 
 digit_small : (b : ℕ) → is_ascii_digit b ≡ true → b < 128
-digit_small b digit = let small : b ≤ 57 = leb-true b 57 (and_parts _ _ digit).1 in omega arith
+digit_small b digit = let small : b ≤ 57 = leb-true b 57 (and_parts (nat_le 48 b) (nat_le b 57) digit).1 in omega arith
 
 pub run_begun : (p : ℕ → Bool) (xs : List ℕ) → 0 < length xs → p (get_or xs 0 0) ≡ true → 0 < prefix_len p xs
 run_begun p [] some passes = absurd (omega arith)

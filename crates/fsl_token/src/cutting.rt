@@ -40,9 +40,7 @@ fn tokens(alloc: Global, text: &str) -> Result<List<Token>, LexFault>
                     from: at,
                     to: at + len as u32,
                 };
-                if tokens.push(Token { kind, span, number }).is_err() {
-                    return Err(LexFault::NoMemory);
-                }
+                tokens.push(Token { kind, span, number })?;
                 len
             }
             Piece::BadChar => return Err(LexFault::BadChar { at }),

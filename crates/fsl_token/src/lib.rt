@@ -5,9 +5,11 @@ mod cutting;
 mod fault;
 mod kind;
 mod piece;
+mod lines;
 mod places;
 
 pub use cutting::lex;
 pub use fault::LexFault;
 pub use kind::{Token, TokenKind};
+pub use lines::place;
 pub use places::Place;
