@@ -2,3 +2,4 @@ pub mod Digits
 pub mod Names
 pub mod Pieces
 pub mod Lexing
+pub mod Counting

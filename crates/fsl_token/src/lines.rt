@@ -15,7 +15,8 @@ pub fn place(bytes: &[u8], at: u32) -> Place
 {
     let mut line = 1;
     let mut col = 1;
-    for byte in &bytes[..at as usize] {
+    let before = &bytes[..at as usize];
+    for byte in before {
         if *byte == b'\n' {
             line += 1;
             col = 1;
