@@ -1,5 +1,8 @@
 -- The fixed texts of the tokens: one of each reserved word and each symbol, none of names and numbers.
-use Rattle.std.specs.Prelude.{ℕ, List, Option, Some, None, codes}
+use Rattle.std.specs.Prelude.{ℕ, Bool, false, List, [], ◌∷◌, Option, Some, None, codes, nat_eq, length}
+use Rattle.std.specs.List.{find, starts_with}
+use Rattle.std.specs.Option.{unwrap_or}
+use Rattle.std.specs.Str.{bytes_eq}
 use Rattle.fsl_token.specs.declared.kind.TokenKind.{TokenKind}
 
 abbrev pub fixed_text : TokenKind → Option (List ℕ)
@@ -72,3 +75,36 @@ fixed_text TokenKind.Comma = Some (codes ",")
 fixed_text TokenKind.Semicolon = Some (codes ";")
 fixed_text TokenKind.Name = None
 fixed_text TokenKind.Number = None
+
+-- how many bytes the fixed text has
+abbrev pub fixed_len : TokenKind → ℕ
+fixed_len kind = length (unwrap_or (fixed_text kind) [])
+
+-- the reserved words, and `_`, which alone is a symbol
+abbrev pub words : List TokenKind
+words = TokenKind.Acq ∷ TokenKind.AcqRel ∷ TokenKind.Alloc ∷ TokenKind.Assert ∷ TokenKind.Bank ∷ TokenKind.Burn ∷ TokenKind.Call ∷ TokenKind.Cas ∷ TokenKind.Down ∷ TokenKind.Else ∷ TokenKind.Emp ∷ TokenKind.Ensures ∷ TokenKind.Exchange ∷ TokenKind.False ∷ TokenKind.Fence ∷ TokenKind.FetchAdd ∷ TokenKind.Free ∷ TokenKind.If ∷ TokenKind.Inv ∷ TokenKind.Let ∷ TokenKind.Load ∷ TokenKind.Mint ∷ TokenKind.Na ∷ TokenKind.Of ∷ TokenKind.Par ∷ TokenKind.Pred ∷ TokenKind.Print ∷ TokenKind.Proc ∷ TokenKind.Rel ∷ TokenKind.Requires ∷ TokenKind.ResultWord ∷ TokenKind.Return ∷ TokenKind.Rlx ∷ TokenKind.Rmw ∷ TokenKind.Store ∷ TokenKind.True ∷ TokenKind.Up ∷ TokenKind.While ∷ TokenKind.With ∷ TokenKind.AcqAssertion ∷ TokenKind.AuthAssertion ∷ TokenKind.InitAssertion ∷ TokenKind.RelAssertion ∷ TokenKind.RmwAcqAssertion ∷ TokenKind.TokAssertion ∷ TokenKind.Underscore ∷ []
+
+-- the other symbols, the longest first
+abbrev pub symbols : List TokenKind
+symbols = TokenKind.Separate ∷ TokenKind.PointsTo ∷ TokenKind.Equal ∷ TokenKind.NotEqual ∷ TokenKind.AtMost ∷ TokenKind.AtLeast ∷ TokenKind.Less ∷ TokenKind.Greater ∷ TokenKind.Assign ∷ TokenKind.Plus ∷ TokenKind.Minus ∷ TokenKind.Star ∷ TokenKind.Question ∷ TokenKind.OpenParen ∷ TokenKind.CloseParen ∷ TokenKind.OpenBrace ∷ TokenKind.CloseBrace ∷ TokenKind.OpenBracket ∷ TokenKind.CloseBracket ∷ TokenKind.Comma ∷ TokenKind.Semicolon ∷ []
+
+-- there is a fixed text, and it passes the test
+abbrev pub fits : Option (List ℕ) → (List ℕ → Bool) → Bool
+fits None test = false
+fits (Some fixed) test = test fixed
+
+-- the fixed text of the kind is just this text
+abbrev pub is_text : List ℕ → TokenKind → Bool
+is_text text kind = fits (fixed_text kind) (λ fixed. bytes_eq text fixed)
+
+-- the fixed text of the kind begins this text
+abbrev pub begins : List ℕ → TokenKind → Bool
+begins text kind = fits (fixed_text kind) (λ fixed. starts_with nat_eq text fixed)
+
+-- a name is of the kind that has its text, else it is a `Name`
+abbrev pub word_kind : List ℕ → TokenKind
+word_kind name = unwrap_or (find (is_text name) words) TokenKind.Name
+
+-- the longest symbol that begins the text
+abbrev pub symbol_kind : List ℕ → Option TokenKind
+symbol_kind text = find (begins text) symbols

@@ -1,4 +1,7 @@
 //! Why bytes are no tokens.
+ghost use Rattle.std.specs.Prelude.{◌≡◌};
+
+use std::alloc::AllocError;
 use thiserror::Error;
 
 /// Why a file can't be cut into tokens. Each `at` is the number of a byte of the file, from 0 on.
@@ -19,4 +22,14 @@ pub enum LexFault {
     /// There was no memory for the list of tokens.
     #[error("out of memory")]
     NoMemory,
+}
+
+impl From<AllocError> for LexFault {
+    ghost use Rattle.fsl_token.specs.declared.fault.LexFault.{LexFault};
+
+    ghost from_gives = { λ _ fault. fault ≡ LexFault.NoMemory };
+
+    fn from(_: AllocError) -> LexFault {
+        LexFault::NoMemory
+    }
 }

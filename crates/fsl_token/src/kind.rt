@@ -1,6 +1,7 @@
 //! What a token is: the reserved words and symbols of the language, names and numbers.
 ghost use Rattle.std.specs.Prelude.{◌≡◌, option_map};
-ghost use Rattle.fsl_token.specs.Words.{fixed_text};
+ghost use Rattle.std.specs.List.{find};
+ghost use Rattle.fsl_token.specs.Words.{fixed_text, fixed_len, word_kind, symbol_kind, is_text, begins};
 
 use fsl_base::Span;
 
@@ -148,6 +149,81 @@ pub enum TokenKind {
     Number,
 }
 
+// The reserved words, and `_`, which alone is a symbol.
+const WORDS: [TokenKind; 46] = [
+    TokenKind::Acq,
+    TokenKind::AcqRel,
+    TokenKind::Alloc,
+    TokenKind::Assert,
+    TokenKind::Bank,
+    TokenKind::Burn,
+    TokenKind::Call,
+    TokenKind::Cas,
+    TokenKind::Down,
+    TokenKind::Else,
+    TokenKind::Emp,
+    TokenKind::Ensures,
+    TokenKind::Exchange,
+    TokenKind::False,
+    TokenKind::Fence,
+    TokenKind::FetchAdd,
+    TokenKind::Free,
+    TokenKind::If,
+    TokenKind::Inv,
+    TokenKind::Let,
+    TokenKind::Load,
+    TokenKind::Mint,
+    TokenKind::Na,
+    TokenKind::Of,
+    TokenKind::Par,
+    TokenKind::Pred,
+    TokenKind::Print,
+    TokenKind::Proc,
+    TokenKind::Rel,
+    TokenKind::Requires,
+    TokenKind::ResultWord,
+    TokenKind::Return,
+    TokenKind::Rlx,
+    TokenKind::Rmw,
+    TokenKind::Store,
+    TokenKind::True,
+    TokenKind::Up,
+    TokenKind::While,
+    TokenKind::With,
+    TokenKind::AcqAssertion,
+    TokenKind::AuthAssertion,
+    TokenKind::InitAssertion,
+    TokenKind::RelAssertion,
+    TokenKind::RmwAcqAssertion,
+    TokenKind::TokAssertion,
+    TokenKind::Underscore,
+];
+
+// The other symbols, the longest first.
+const SYMBOLS: [TokenKind; 21] = [
+    TokenKind::Separate,
+    TokenKind::PointsTo,
+    TokenKind::Equal,
+    TokenKind::NotEqual,
+    TokenKind::AtMost,
+    TokenKind::AtLeast,
+    TokenKind::Less,
+    TokenKind::Greater,
+    TokenKind::Assign,
+    TokenKind::Plus,
+    TokenKind::Minus,
+    TokenKind::Star,
+    TokenKind::Question,
+    TokenKind::OpenParen,
+    TokenKind::CloseParen,
+    TokenKind::OpenBrace,
+    TokenKind::CloseBrace,
+    TokenKind::OpenBracket,
+    TokenKind::CloseBracket,
+    TokenKind::Comma,
+    TokenKind::Semicolon,
+];
+
 impl TokenKind {
     /// The text that every token of this kind has; `None` for names and numbers.
     pub fn fixed_text(self) -> Option<&'static str>
@@ -225,6 +301,74 @@ impl TokenKind {
         };
         Some(text)
     }
+
+    /// How many bytes the fixed text has; 0 for names and numbers.
+    pub fn fixed_len(self) -> usize
+        ensures { result ≡ fixed_len self }
+    {
+        match self.fixed_text() {
+            Some(fixed) => fixed.len(),
+            None => 0,
+        }
+    }
+
+    /// The kind of a name: a reserved word, `_` alone, or a `Name`.
+    pub fn of_name(name: &[u8]) -> TokenKind
+        ensures { result ≡ word_kind name.now }
+    {
+        with_text(&WORDS, name).unwrap_or(TokenKind::Name)
+    }
+
+    /// The longest symbol but `_` that begins a text; `None` where none does.
+    pub fn first_symbol(text: &str) -> Option<TokenKind>
+        ensures { result ≡ symbol_kind text.now }
+    {
+        that_begins(&SYMBOLS, text)
+    }
+
+    // Whether the kind's fixed text is just this text.
+    fn is_text(self, text: &[u8]) -> bool
+        ensures { result ≡ is_text text.now self }
+    {
+        match self.fixed_text() {
+            Some(fixed) => text == fixed.as_bytes(),
+            None => false,
+        }
+    }
+
+    // Whether the kind's fixed text begins this text.
+    fn begins(self, text: &str) -> bool
+        ensures { result ≡ begins text.now self }
+    {
+        match self.fixed_text() {
+            Some(fixed) => text.starts_with(fixed),
+            None => false,
+        }
+    }
+}
+
+// The first of the kinds whose fixed text is just this text.
+fn with_text(kinds: &[TokenKind], text: &[u8]) -> Option<TokenKind>
+    ensures { result ≡ find (is_text text.now) kinds.now }
+{
+    for kind in kinds {
+        if kind.is_text(text) {
+            return Some(*kind);
+        }
+    }
+    None
+}
+
+// The first of the kinds whose fixed text begins this text.
+fn that_begins(kinds: &[TokenKind], text: &str) -> Option<TokenKind>
+    ensures { result ≡ find (begins text.now) kinds.now }
+{
+    for kind in kinds {
+        if kind.begins(text) {
+            return Some(*kind);
+        }
+    }
+    None
 }
 
 /// A token at its place in the file.

@@ -1,10 +1,15 @@
 //! Cuts the bytes of a program file into tokens, and tells lines and columns.
 #![tactic(auto)]
 
+mod cutting;
 mod fault;
 mod kind;
-mod place;
+mod piece;
+mod lines;
+mod places;
 
+pub use cutting::lex;
 pub use fault::LexFault;
 pub use kind::{Token, TokenKind};
-pub use place::Place;
+pub use lines::place;
+pub use places::Place;

@@ -1,4 +1,4 @@
-//! Lines and columns.
+//! What a place is.
 
 /// A place as a reader of the file counts it: lines and columns from 1, columns in characters.
 #[derive(Clone, Copy, Debug, PartialEq, Eq)]

@@ -1,0 +1,5 @@
+pub mod Digits
+pub mod Names
+pub mod Pieces
+pub mod Lexing
+pub mod Counting
