@@ -1,6 +1,6 @@
 -- Whole-number combinations of symbols and a constant, and the operations on them. None of these has a
 -- bound; `is_narrow` says which combinations a `Lin` holds.
-use Rattle.std.specs.Prelude.{◌≡◌, ℕ, zero, suc, ◌≤◌, ◌^◌, Bool, true, ◌&&◌, List, [], ◌∷◌, ◌++◌, length, map, get_or, replicate, ℤ, pos, negsuc, ◌+ℤ◌, ◌-ℤ◌, ◌*ℤ◌, nat_le, nat_lt}
+use Rattle.std.specs.Prelude.{◌≡◌, ℕ, zero, suc, ◌≤◌, ◌^◌, Bool, true, false, Option, MatchOption, ◌&&◌, List, [], ◌∷◌, ◌++◌, length, map, get_or, replicate, ℤ, pos, negsuc, ◌+ℤ◌, ◌-ℤ◌, ◌*ℤ◌, nat_le, nat_lt}
 
 -- item s of `terms` is the coefficient of symbol s, and a symbol past the end has 0; `rest` is the constant
 pub record Combination : Type 0 where
@@ -56,6 +56,17 @@ are_within bound (x ∷ xs) = is_within bound x && are_within bound xs
 -- each coefficient is at most 2^24 in size, and the constant at most 2^90
 abbrev pub is_narrow : Combination → Bool
 is_narrow c = are_within (2 ^ 24) c.terms && is_within (2 ^ 90) c.rest
+
+-- the number n, or `None` exactly where it is greater than a coefficient may be, than a constant may be
+pub record IsNarrowed (bound : ℕ) (n : ℤ) (found : ℤ) : Type 0 where
+  pub is : found ≡ n
+  pub within : is_within bound n ≡ true
+
+abbrev pub IsTerm : ℤ → Option ℤ → Type 0
+IsTerm n found = MatchOption found (is_within (2 ^ 24) n ≡ false) (IsNarrowed (2 ^ 24) n)
+
+abbrev pub IsRest : ℤ → Option ℤ → Type 0
+IsRest n found = MatchOption found (is_within (2 ^ 90) n ≡ false) (IsNarrowed (2 ^ 90) n)
 
 -- what a `Lin` keeps: few symbols, no zero at the end, numbers within their bounds
 pub record IsKept (c : Combination) : Type 0 where

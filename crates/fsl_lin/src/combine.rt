@@ -1,6 +1,6 @@
 //! Lists of coefficients: their sums, differences and multiples, each number exact or refused.
 ghost use Rattle.std.specs.Prelude.{◌≡◌, ◌≤ℤ◌, ◌≤◌, ◌<◌, ◌^◌, ◌++◌, ◌∷◌, ◌*ℤ◌, [], ℤ, pos, IfOk, OnOk, IsErrOf, MatchOption, true, false, length, get_or, map, replicate};
-ghost use Rattle.fsl_lin.specs.Combination.{is_within, are_within, joined, trim};
+ghost use Rattle.fsl_lin.specs.Combination.{are_within, joined, trim, IsTerm, IsRest};
 ghost use Rattle.fsl_lin.specs.Sign.{signed};
 
 use crate::fault::LinFault;
@@ -16,7 +16,7 @@ const MAX_REST: i128 = 1237940039285380274899124224;
 
 /// A coefficient, if it is no greater than one may be.
 fn term(n: i128) -> Option<i32>
-    ensures { MatchOption result (is_within (2 ^ 24) n ≡ false) (λ term. (term ≡ n) × (is_within (2 ^ 24) n ≡ true)) }
+    ensures { IsTerm n result }
 {
     if -MAX_TERM <= n && n <= MAX_TERM {
         Some(n as i32)
@@ -27,7 +27,7 @@ fn term(n: i128) -> Option<i32>
 
 /// A constant, if it is no greater than one may be.
 pub fn rest(n: i128) -> Option<i128>
-    ensures { MatchOption result (is_within (2 ^ 90) n ≡ false) (λ rest. (rest ≡ n) × (is_within (2 ^ 90) n ≡ true)) }
+    ensures { IsRest n result }
 {
     if -MAX_REST <= n && n <= MAX_REST {
         Some(n)
@@ -37,11 +37,35 @@ pub fn rest(n: i128) -> Option<i128>
 }
 
 /// The coefficient at a place, 0 past the end.
-fn at(terms: &[i32], s: usize) -> i128
+fn at(terms: &[i32], s: usize) -> i32
     ensures { result ≡ get_or terms.now s (pos 0) }
 {
     match terms.get(s) {
-        Some(term) => i128::from(*term),
+        Some(term) => *term,
         None => 0,
     }
+}
+
+/// The sum or difference of the coefficients at a place, if it is no greater than a coefficient may be.
+fn joined_at(sign: Sign, a: &[i32], b: &[i32], s: usize) -> Option<i32>
+    ensures { IsTerm (signed sign (get_or a.now s (pos 0)) (get_or b.now s (pos 0))) result }
+{
+    term(sign.of(at(a, s), at(b, s)))
+}
+
+/// The sums or differences at each place.
+pub fn joined(alloc: Global, sign: Sign, a: &[i32], b: &[i32]) -> Result<Vec<i32>, LinFault>
+    ensures exact { IfOk result (λ terms. terms.items ≡ joined (signed sign) a.now b.now) }
+    ensures narrow { OnOk result (are_within (2 ^ 24) (joined (signed sign) a.now b.now) ≡ true) }
+    ensures wide { IsErrOf result LinFault.Wide → are_within (2 ^ 24) (joined (signed sign) a.now b.now) ≡ false }
+{
+    let mut terms = Vec::new(alloc);
+    let width = a.len().max(b.len());
+    for s in 0..width {
+        match joined_at(sign, a, b, s) {
+            Some(term) => terms.push(term)?,
+            None => return Err(LinFault::Wide),
+        }
+    }
+    Ok(terms)
 }
