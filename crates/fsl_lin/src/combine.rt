@@ -1,6 +1,6 @@
 //! Lists of coefficients: their sums, differences and multiples, each number exact or refused.
 ghost use Rattle.std.specs.Prelude.{◌≡◌, ◌≤ℤ◌, ◌≤◌, ◌<◌, ◌^◌, ◌++◌, ◌∷◌, ◌*ℤ◌, [], ℤ, pos, IfOk, OnOk, IsErrOf, MatchOption, true, false, length, get_or, map, replicate};
-ghost use Rattle.fsl_lin.specs.Combination.{are_within, joined, trim, IsTerm, IsRest};
+ghost use Rattle.fsl_lin.specs.Combination.{are_within, joined, products, trim, IsTerm, IsRest};
 ghost use Rattle.fsl_lin.specs.Sign.{signed};
 
 use crate::fault::LinFault;
@@ -67,5 +67,79 @@ pub fn joined(alloc: Global, sign: Sign, a: &[i32], b: &[i32]) -> Result<Vec<i32
             None => return Err(LinFault::Wide),
         }
     }
+    Ok(terms)
+}
+
+/// The product of a coefficient and a number, if it is no greater than a coefficient may be.
+fn product(x: &i32, k: &i128) -> Option<i32>
+    ensures { IsTerm (x.now *ℤ k.now) result }
+{
+    match i128::from(*x).checked_mul(*k) {
+        Some(exact) => term(exact),
+        None => None,
+    }
+}
+
+/// The product of a constant and a number, if it is no greater than a constant may be.
+pub fn rest_product(x: &i128, k: &i128) -> Option<i128>
+    ensures { IsRest (x.now *ℤ k.now) result }
+{
+    match x.checked_mul(*k) {
+        Some(exact) => rest(exact),
+        None => None,
+    }
+}
+
+/// The sum or the difference of two constants, if it is no greater than a constant may be.
+pub fn rest_joined(sign: Sign, x: &i128, y: &i128) -> Option<i128>
+    ensures { IsRest (signed sign x.now y.now) result }
+{
+    let exact = match sign {
+        Sign::Plus => x.checked_add(*y),
+        Sign::Minus => x.checked_sub(*y),
+    };
+    match exact {
+        Some(exact) => rest(exact),
+        None => None,
+    }
+}
+
+/// The products of each coefficient and a number.
+pub fn products(alloc: Global, terms: &[i32], k: &i128) -> Result<Vec<i32>, LinFault>
+    ensures exact { IfOk result (λ scaled. scaled.items ≡ products k.now terms.now) }
+    ensures narrow { OnOk result (are_within (2 ^ 24) (products k.now terms.now) ≡ true) }
+    ensures wide { IsErrOf result LinFault.Wide → are_within (2 ^ 24) (products k.now terms.now) ≡ false }
+{
+    let mut scaled = Vec::new(alloc);
+    for term in terms {
+        match product(term, k) {
+            Some(term) => scaled.push(term)?,
+            None => return Err(LinFault::Wide),
+        }
+    }
+    Ok(scaled)
+}
+
+/// Takes the zeros at the end off.
+pub fn trim(terms: &mut Vec<i32>)
+    ensures { terms.new.items ≡ trim terms.old.items }
+{
+    while let Some(last) = terms.last() {
+        if *last != 0 {
+            return;
+        }
+        let _ = terms.pop();
+    }
+}
+
+/// The coefficients of a symbol: 1 at its place, and 0 before it.
+pub fn unit(alloc: Global, s: Sym) -> Result<Vec<i32>, AllocError>
+    ensures { IfOk result (λ terms. terms.items ≡ replicate s.0 (pos 0) ++ pos 1 ∷ []) }
+{
+    let mut terms = Vec::new(alloc);
+    for _i in 0..s.0 {
+        terms.push(0)?;
+    }
+    terms.push(1)?;
     Ok(terms)
 }
