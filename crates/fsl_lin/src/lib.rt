@@ -5,6 +5,7 @@
 mod combine;
 mod edge;
 mod fault;
+pub mod laws;
 mod lin;
 mod sign;
 mod sym;

@@ -1,7 +1,7 @@
 //! Combinations of symbols with numbers of bounded size. Each call is exact, or says that a number of the
 //! true result passes its bound.
 ghost use Rattle.std.specs.Prelude.{◌≡◌, ◌<◌, ◌≤◌, ◌^◌, ◌↔◌, IsTrue, IfOk, OnOk, IsErrOf, IsOkUnless, true, false, length};
-ghost use Rattle.fsl_lin.specs.Combination.{combined, plus, minus, times, constant, symbol, coefficient, trimmed, is_narrow, is_within, are_within};
+ghost use Rattle.fsl_lin.specs.Combination.{IsKept, combined, plus, minus, times, constant, symbol, coefficient, trimmed, is_narrow, is_within, are_within};
 ghost use Rattle.fsl_lin.specs.Sign.{signed};
 
 use crate::combine::{joined, products, rest, rest_joined, rest_product, trim, unit};
@@ -73,6 +73,14 @@ impl Lin {
         ensures narrow { is_within (2 ^ 90) result ≡ true }
     {
         self.rest
+    }
+
+    /// The number of the last symbol that it has, and one more; 0 for a number alone.
+    pub fn width(&self) -> usize
+        ensures value { result ≡ length self.now.terms }
+        ensures kept { IsKept self.now }
+    {
+        self.terms.len()
     }
 
     /// The sum of two combinations.
