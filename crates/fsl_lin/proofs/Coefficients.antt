@@ -1,6 +1,5 @@
 -- The coefficients of sums, differences and products, and equality by coefficients.
-use Rattle.std.proofs.Common.{◌≡◌, ℕ, zero, suc, List, [], ◌∷◌, ◌++◌, replicate, get_or, ℤ, pos, negsuc, ◌+ℤ◌, ◌-ℤ◌, ◌*ℤ◌, refl, sym, ap, ◌∙◌, arith}
-use Rattle.std.proofs.lemmas.Int.{ints}
+use Rattle.std.proofs.Common.{◌≡◌, ℕ, zero, suc, List, [], ◌∷◌, get_or, ℤ, pos, negsuc, ◌+ℤ◌, ◌-ℤ◌, ◌*ℤ◌, refl, sym, ap, ◌∙◌}
 use Rattle.std.proofs.Math.IntN.{zero-*ℤ}
 use Rattle.fsl_lin.specs.Combination.{Combination, IsKept, coefficient, lead, trim, joined, products, plus, minus, times, symbol}
 

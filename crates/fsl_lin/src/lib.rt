@@ -4,13 +4,17 @@
 
 mod combine;
 mod edge;
+mod fact;
 mod fault;
 pub mod laws;
 mod lin;
 mod sign;
 mod sym;
+mod took;
 
 pub use edge::Edge;
+pub use fact::Fact;
 pub use fault::LinFault;
 pub use lin::Lin;
 pub use sym::Sym;
+pub use took::Took;
