@@ -1,3 +1,5 @@
 pub mod Coefficients
 pub mod Kept
+pub mod Reduced
+pub mod Ring
 pub mod Terms
