@@ -58,7 +58,7 @@ pivot_below (suc k) n = if is_unit (n (suc k)) then Some (suc k) else pivot_belo
 
 -- an equation times the 1 or -1 at its pivot
 abbrev pub turned : ℕ → Numbers → Numbers
-turned p n i = n p *ℤ n i
+turned p n i = n i *ℤ n p
 
 -- f without place p, by the equation e with 1 there
 abbrev pub without : ℕ → Numbers → Numbers → Numbers

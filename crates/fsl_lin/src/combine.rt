@@ -37,7 +37,7 @@ pub fn rest(n: i128) -> Option<i128>
 }
 
 /// The coefficient at a place, 0 past the end.
-fn at(terms: &[i32], s: usize) -> i32
+pub fn at(terms: &[i32], s: usize) -> i32
     ensures { result ≡ get_or terms.now s (pos 0) }
 {
     match terms.get(s) {

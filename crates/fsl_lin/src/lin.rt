@@ -2,9 +2,10 @@
 //! true result passes its bound.
 ghost use Rattle.std.specs.Prelude.{◌≡◌, ◌<◌, ◌≤◌, ◌^◌, ◌↔◌, IsTrue, IfOk, OnOk, IsErrOf, IsOkUnless, true, false, length};
 ghost use Rattle.fsl_lin.specs.Combination.{IsKept, combined, plus, minus, times, constant, symbol, coefficient, trimmed, is_narrow, is_within, are_within};
+ghost use Rattle.fsl_lin.specs.Numbers.{part};
 ghost use Rattle.fsl_lin.specs.Sign.{signed};
 
-use crate::combine::{joined, products, rest, rest_joined, rest_product, trim, unit};
+use crate::combine::{at, joined, products, rest, rest_joined, rest_product, trim, unit};
 use crate::fault::LinFault;
 use crate::sign::Sign;
 use crate::sym::Sym;
@@ -61,10 +62,7 @@ impl Lin {
         ensures value { result ≡ coefficient self.now s.0 }
         ensures narrow { is_within (2 ^ 24) result ≡ true }
     {
-        match self.terms.get(s.0 as usize) {
-            Some(term) => i128::from(*term),
-            None => 0,
-        }
+        i128::from(at(self.terms.as_slice(), s.0 as usize))
     }
 
     /// The constant.
@@ -73,6 +71,18 @@ impl Lin {
         ensures narrow { is_within (2 ^ 90) result ≡ true }
     {
         self.rest
+    }
+
+    /// The number at a place: the constant at 0, and the coefficient of symbol s at s + 1.
+    pub fn part(&self, i: usize) -> i128
+        ensures value { result ≡ part self.now i }
+        ensures narrow { is_within (2 ^ 90) result ≡ true }
+    {
+        if i == 0 {
+            self.rest
+        } else {
+            i128::from(at(self.terms.as_slice(), i - 1))
+        }
     }
 
     /// The number of the last symbol that it has, and one more; 0 for a number alone.
