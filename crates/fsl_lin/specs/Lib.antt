@@ -1,3 +1,9 @@
 pub mod Combination
+pub mod Equations
+pub mod Facts
+pub mod Numbers
+pub mod Rows
 pub mod Sign
+pub mod Sizes
+pub mod Values
 pub mod Walks

@@ -1,6 +1,5 @@
 //! Which of a sum and a difference is meant.
-ghost use Rattle.std.specs.Prelude.{◌≡◌, ◌^◌, IsTrue};
-ghost use Rattle.fsl_lin.specs.Combination.{is_within};
+ghost use Rattle.std.specs.Prelude.{◌≡◌};
 ghost use Rattle.fsl_lin.specs.Sign.{signed};
 
 /// A sum or a difference.
@@ -11,15 +10,13 @@ pub enum Sign {
 }
 
 impl Sign {
-    /// The sum or the difference of two numbers of at most 2^100 in size.
-    pub fn of(self, x: i128, y: i128) -> i128
-        requires left { IsTrue (is_within (2 ^ 100) x) }
-        requires right { IsTrue (is_within (2 ^ 100) y) }
+    /// The sum or the difference of two numbers.
+    pub fn of(self, x: i32, y: i32) -> i128
         ensures { result ≡ signed self x y }
     {
         match self {
-            Sign::Plus => x + y,
-            Sign::Minus => x - y,
+            Sign::Plus => i128::from(x) + i128::from(y),
+            Sign::Minus => i128::from(x) - i128::from(y),
         }
     }
 }
