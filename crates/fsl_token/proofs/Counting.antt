@@ -8,29 +8,15 @@ use Rattle.std.specs.Char.{is_newline, encode_utf8}
 use Rattle.std.specs.List.{count_by, suffix_len, prefix_len}
 use Rattle.std.specs.Str.{IsUtf8, IsCharBoundary, chars, encode_utf8_all}
 use Rattle.fsl_token.specs.declared.places.Place.{Place}
-use Rattle.fsl_token.specs.Places.{place_behind, place_of, is_continuation}
-
-abbrev pub next_line : Place → Place
-next_line p = record { line = p.line + 1; col = 1 }
-
-abbrev pub next_col : Place → Place
-next_col p = record { line = p.line; col = p.col + 1 }
+use Rattle.fsl_token.specs.Places.{place_behind, place_of, is_continuation, next_line, next_col, after_byte, walk_bytes}
 
 -- the place behind one more character
 abbrev after : Place → ℕ → Place
 after p c = cond (is_newline c) (next_line p) (next_col p)
 
--- and behind one more byte: only a character's first byte counts
-abbrev pub after_byte : Place → ℕ → Place
-after_byte p b = cond (is_newline b) (next_line p) (cond (is_continuation b) p (next_col p))
-
 abbrev walk : Place → List ℕ → Place
 walk p [] = p
 walk p (c ∷ cs) = walk (after p c) cs
-
-abbrev pub walk_bytes : Place → List ℕ → Place
-walk_bytes p [] = p
-walk_bytes p (b ∷ bs) = walk_bytes (after_byte p b) bs
 
 abbrev at_place : ℕ → ℕ → Place
 at_place line col = record { line = line; col = col }

@@ -4,8 +4,8 @@
 mod cutting;
 mod fault;
 mod kind;
-mod piece;
 mod lines;
+mod piece;
 mod places;
 
 pub use cutting::lex;

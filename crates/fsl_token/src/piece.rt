@@ -17,7 +17,9 @@ const LONGEST_NAME: usize = 64;
 #[derive(Clone, Copy, Debug, PartialEq, Eq)]
 pub enum Piece {
     /// A blank or a comment of `len` bytes.
-    Gap { len: usize },
+    Gap {
+        len: usize,
+    },
     /// A token of `len` bytes, with its value if it is a number and else 0.
     Token {
         kind: TokenKind,
