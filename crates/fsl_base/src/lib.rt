@@ -5,11 +5,15 @@
 mod boxed;
 mod clone;
 mod list;
+mod outside;
+mod reading;
 mod span;
 mod text;
 
 pub use boxed::Boxed;
 pub use clone::{Same, TryClone};
 pub use list::List;
+pub use outside::{Failed, Gate, Shelf, Sink, Spot, Taken};
+pub use reading::{ReadAll, read_all};
 pub use span::Span;
 pub use text::Text;
