@@ -5,6 +5,7 @@
 mod boxed;
 mod clone;
 mod list;
+mod mem_shelf;
 mod outside;
 mod reading;
 mod span;
@@ -13,6 +14,7 @@ mod text;
 pub use boxed::Boxed;
 pub use clone::{Same, TryClone};
 pub use list::List;
+pub use mem_shelf::{MemShelf, Named};
 pub use outside::{Failed, Gate, Shelf, Sink, Spot, Taken};
 pub use reading::{ReadAll, read_all};
 pub use span::Span;
