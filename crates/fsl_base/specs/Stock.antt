@@ -1,5 +1,5 @@
 -- What a shelf in memory holds, and which of its calls fail.
-use Rattle.std.specs.Prelude.{ℕ, ◌≤◌, Bool, true, false, cond, List, [], ◌∷◌, Option, None, Some, length, drop, nat_eq, nat_le, slice_get}
+use Rattle.std.specs.Prelude.{ℕ, Bool, true, false, cond, List, [], ◌∷◌, Option, None, Some, length, drop, nat_eq, nat_le, slice_get}
 use Rattle.std.specs.Option.{option_map}
 use Rattle.std.specs.List.{list_any}
 use Rattle.std.specs.Str.{bytes_eq}

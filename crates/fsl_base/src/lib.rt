@@ -13,6 +13,8 @@ mod out_sink;
 mod outside;
 mod reading;
 mod span;
+#[cfg(test)]
+mod tests;
 mod text;
 
 pub use boxed::Boxed;
