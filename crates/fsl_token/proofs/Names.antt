@@ -1,10 +1,10 @@
 -- The name that begins a text, and what follows it.
-use Rattle.std.proofs.Common.{◌≡◌, ℕ, ◌+◌, ◌<◌, ◌≤◌, Bool, true, false, cond, ◌&&◌, List, [], ◌∷◌, ◌++◌, length, take, drop, get_or, refl, sym, ap, ◌∙◌, subst, arith, append_assoc, length-append, take-append-drop}
+use Rattle.std.proofs.Common.{◌≡◌, ℕ, ◌+◌, ◌≤◌, Bool, true, false, cond, List, [], ◌∷◌, ◌++◌, length, take, drop, refl, sym, ap, ◌∙◌, subst, arith, length-append, take-append-drop}
 use Rattle.std.proofs.lemmas.Bool.{and_parts}
-use Rattle.std.proofs.lemmas.Str.{encodes-append, encodes-chars, scalars-chars, chars_past_char, chars-nil, IsUtf8-past_char, length-encode}
+use Rattle.std.proofs.lemmas.Str.{encodes-append, encodes-chars, scalars-chars, chars_past_char, length-encode}
 use Rattle.std.proofs.lemmas.List.Sums.{take_while-cons}
 use Rattle.std.proofs.lemmas.List.Folds.{length-prefix_len}
-use Rattle.std.proofs.Math.Seq.{take-append_seam, drop-append_seam}
+use Rattle.std.proofs.Math.Seq.{take-append_seam}
 use Rattle.std.proofs.Math.Utf8.{scalars}
 use Rattle.std.specs.Char.{encode_utf8, len_utf8}
 use Rattle.std.specs.List.{take_while, prefix_len}
@@ -51,7 +51,7 @@ pub name_more : (before rest : List ℕ) (c : ℕ) → IsUtf8 before → before 
     → length (encode_utf8_all (take_while is_xid_continue (chars before))) ≡ len_utf8 c + length (encode_utf8_all (take_while is_xid_continue (chars rest)))
 name_more before rest c utf8 next continues =
     let more : take_while is_xid_continue (chars before) ≡ c ∷ take_while is_xid_continue (chars rest) =
-      ap (take_while is_xid_continue) (chars_past_char before rest c utf8 next) ∙ take_while-cons is_xid_continue c (chars rest) ∙ ap (λ b. cond b (c ∷ take_while is_xid_continue (chars rest)) []) continues in
+    ap (take_while is_xid_continue) (chars_past_char before rest c utf8 next) ∙ take_while-cons is_xid_continue c (chars rest) ∙ ap (λ b. cond b (c ∷ take_while is_xid_continue (chars rest)) []) continues in
     ap (λ cs. length (encode_utf8_all cs)) more ∙ length-append (encode_utf8 c) _ ∙ ap (λ n. n + length (encode_utf8_all (take_while is_xid_continue (chars rest)))) (length-encode c)
 
 -- no more of them
@@ -65,7 +65,7 @@ pub name_begun : (text rest : List ℕ) (c : ℕ) → IsUtf8 text → text ≡ e
     → len_utf8 c + length (encode_utf8_all (take_while is_xid_continue (chars rest))) ≡ length (leading_name text)
 name_begun text rest c utf8 next begins =
     let name : name_chars (chars text) ≡ c ∷ take_while is_xid_continue (chars rest) =
-      ap name_chars (chars_past_char text rest c utf8 next) ∙ ap (λ b. cond b (c ∷ take_while is_xid_continue (chars rest)) []) begins in
+    ap name_chars (chars_past_char text rest c utf8 next) ∙ ap (λ b. cond b (c ∷ take_while is_xid_continue (chars rest)) []) begins in
     sym (ap (λ cs. length (encode_utf8_all cs)) name ∙ length-append (encode_utf8 c) _ ∙ ap (λ n. n + length (encode_utf8_all (take_while is_xid_continue (chars rest)))) (length-encode c))
 
 -- a step over a character takes its bytes from the text

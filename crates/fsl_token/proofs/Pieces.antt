@@ -1,5 +1,5 @@
 -- Each piece ends where the text may be cut.
-use Rattle.std.proofs.Common.{◌≡◌, ℕ, ◌+◌, ◌-◌, ◌<◌, ◌≤◌, Bool, true, false, cond, ◌⊎◌, ⊎_elim, Option, Some, None, List, [], ◌∷◌, ◌++◌, length, take, drop, get_or, refl, sym, ap, ◌∙◌, subst, arith, nat_eq, nat_lt, nat_le, not, ◌&&◌, length-append}
+use Rattle.std.proofs.Common.{◌≡◌, ℕ, ◌+◌, ◌-◌, ◌<◌, ◌≤◌, Bool, true, false, cond, ⊎_elim, Option, Some, None, List, [], ◌∷◌, ◌++◌, length, drop, get_or, refl, sym, ap, ◌∙◌, subst, arith, nat_eq, nat_lt, nat_le, not, ◌&&◌, length-append}
 use Rattle.std.proofs.lemmas.Bool.{and_parts, or_cases, eqb-true, ltb-true, cases_Bool, true≢false, false≢true, not-false}
 use Rattle.std.proofs.lemmas.List.Sums.{prefix_len-le-length, prefix_len_stops}
 use Rattle.std.proofs.lemmas.List.Folds.{length-prefix_len, list_all_at}
@@ -8,13 +8,13 @@ use Rattle.std.proofs.lemmas.Bool.Decides.{Decides-eqb}
 use Rattle.std.proofs.lemmas.Slice.Eq.{starts_is}
 use Rattle.std.proofs.lemmas.Str.{IsCharBoundary-after_ascii, IsCharBoundary-at_seam}
 use Rattle.std.specs.Char.{is_ascii_digit, is_newline}
-use Rattle.std.specs.List.{prefix_len, position_or_len, list_all, find, starts_with}
+use Rattle.std.specs.List.{list_all, find, starts_with}
 use Rattle.std.specs.Option.{unwrap_or}
 use Rattle.std.specs.Str.{IsUtf8, IsCharBoundary}
 use Rattle.std.specs.Str.Parse.{digits_value}
 use Rattle.fsl_token.specs.declared.kind.TokenKind.{TokenKind}
 use Rattle.fsl_token.specs.declared.piece.Piece.{Piece}
-use Rattle.fsl_token.specs.Words.{fixed_text, fixed_len, fits, begins, symbols, symbol_kind, word_kind}
+use Rattle.fsl_token.specs.Words.{fixed_text, fits, begins, symbols, symbol_kind, word_kind}
 use Rattle.fsl_token.specs.Tokens.{is_blank, begins_comment, comment_len, leading_digits, number_piece, leading_name, name_piece, symbol_piece, first_piece}
 use Rattle.fsl_token.proofs.Digits.{run_begun, digits_cut}
 use Rattle.fsl_token.proofs.Names.{name_split, after_name, after_name_utf8}
@@ -58,10 +58,15 @@ comment_cut : (text : List ℕ) → begins_comment text ≡ true → Cuts text (
 comment_cut text comment =
     let begun = first_slash text comment in
     let some : 0 < comment_len text = run_begun (λ b. not (is_newline b)) text begun.0 (ap not begun.1) in
-    let within : comment_len text ≤ length text = prefix_len-le-length (λ b. not (is_newline b)) text in
-    (some, (within, λ below high.
-      let newline : get_or text (comment_len text) 0 ≡ 10 = eqb-true _ 10 (not-false _ (prefix_len_stops (λ b. not (is_newline b)) text 0 below)) in
-      omega arith))
+    let within : comment_len text ≤ length text = prefix_len-le-length (λ b. not (is_newline b)) text in (
+      some,
+      (
+        within,
+        λ below high.
+            let newline : get_or text (comment_len text) 0 ≡ 10 = eqb-true _ 10 (not-false _ (prefix_len_stops (λ b. not (is_newline b)) text 0 below)) in
+            omega arith,
+      ),
+    )
 
 number_cut : (text : List ℕ) → IsUtf8 text → 0 < length text → is_ascii_digit (get_or text 0 0) ≡ true → CutsBy text (number_piece (leading_digits text))
 number_cut text utf8 some digit = either (CutsBy text) (nat_le (digits_value 10 (leading_digits text)) 9223372036854775808) (Piece.Token TokenKind.Number (length (leading_digits text)) (digits_value 10 (leading_digits text))) Piece.LongNumber
@@ -82,7 +87,7 @@ text_cut : (text fixed : List ℕ) → IsUtf8 text → text ≡ fixed ++ drop (l
 text_cut text fixed utf8 is some ascii =
     let long = ap length is ∙ length-append fixed (drop (length fixed) text) in
     let last : get_or text (length fixed - 1) 0 < 128 =
-      subst (λ t. get_or t (length fixed - 1) 0 < 128) (sym is) (subst (λ b. b < 128) (sym (get_or_append_left fixed (drop (length fixed) text) 0 (length fixed - 1) (omega arith))) (ltb-true _ 128 (all_at (λ b. nat_lt b 128) fixed (length fixed - 1) 0 ascii (omega arith)))) in
+    subst (λ t. get_or t (length fixed - 1) 0 < 128) (sym is) (subst (λ b. b < 128) (sym (get_or_append_left fixed (drop (length fixed) text) 0 (length fixed - 1) (omega arith))) (ltb-true _ 128 (all_at (λ b. nat_lt b 128) fixed (length fixed - 1) 0 ascii (omega arith)))) in
     ascii_cut text (length fixed) utf8 some (omega arith) last
 
 fixed_cut : (text : List ℕ) (fixed : Option (List ℕ)) → IsUtf8 text → fits fixed (starts_with nat_eq text) ≡ true → fits fixed is_ascii_text ≡ true → Cuts text (length (unwrap_or fixed []))

@@ -4,9 +4,11 @@
 mod cutting;
 mod fault;
 mod kind;
-mod piece;
 mod lines;
+mod piece;
 mod places;
+#[cfg(test)]
+mod tests;
 
 pub use cutting::lex;
 pub use fault::LexFault;

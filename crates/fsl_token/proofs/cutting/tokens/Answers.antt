@@ -1,4 +1,4 @@
-use Rattle.std.proofs.Common.{◌≡◌, ◌<◌, ◌≤◌, ◌+◌, ◌++◌, length, drop, eqb, false, sym, ◌∙◌, ap, subst, arith}
+use Rattle.std.proofs.Common.{◌≡◌, ◌<◌, ◌+◌, length, eqb, false, sym, ◌∙◌, subst, arith}
 use Rattle.std.proofs.lemmas.Bool.{eqb-false}
 use Rattle.std.proofs.lemmas.Str.{IsUtf8-drop}
 use Rattle.std.specs.Str.{IsUtf8}
@@ -24,10 +24,11 @@ overflow_add-span c =
 -- the piece was cut off, and its token is there
 steps : (c : Joined-first) (left : 0 < length c.loop-rest.rest.now) → Steps c.args.text.now c.loop-rest.rest.now c.match-first.tokens c.loop-rest.at c.match-first.len
 steps c left = elim c.match-first.branch [
-  in-Gap w ↦ subst (Steps c.args.text.now c.loop-rest.rest.now c.match-first.tokens c.loop-rest.at) (sym w.len-is)
-    (gap_steps _ _ c.loop-rest.tokens c.loop-rest.at c.loop-rest.invariant.utf8 left c.loop-rest.invariant.so_far c.match-first.tokens w.in-Gap.len c.first.result c.first.ensures w.in-Gap.is w.tokens-is)
+  | in-Gap w ↦ subst (Steps c.args.text.now c.loop-rest.rest.now c.match-first.tokens c.loop-rest.at) (sym w.len-is)
+      (gap_steps _ _ c.loop-rest.tokens c.loop-rest.at c.loop-rest.invariant.utf8 left c.loop-rest.invariant.so_far c.match-first.tokens w.in-Gap.len c.first.result c.first.ensures w.in-Gap.is w.tokens-is)
   | in-Token+in_ok-push-in-Token w ↦ subst (Steps c.args.text.now c.loop-rest.rest.now c.match-first.tokens c.loop-rest.at) (sym w.len-is)
-    (token_steps _ _ c.loop-rest.tokens c.loop-rest.at c.loop-rest.invariant.utf8 left c.loop-rest.invariant.so_far c.match-first.tokens w.in-Token.kind w.in-Token.len w.in-Token.number c.first.result c.first.ensures w.in-Token.is (w.tokens-is ∙ w.in_ok-push-in-Token.ensures.pushed)) ]
+      (token_steps _ _ c.loop-rest.tokens c.loop-rest.at c.loop-rest.invariant.utf8 left c.loop-rest.invariant.so_far c.match-first.tokens w.in-Token.kind w.in-Token.len w.in-Token.number c.first.result c.first.ensures w.in-Token.is (w.tokens-is ∙ w.in_ok-push-in-Token.ensures.pushed))
+]
 
 pub split_at-requires : goal.split_at-requires
 split_at-requires c = (steps c (some (goal.at.split_at-requires c).After-first)).cuts.1

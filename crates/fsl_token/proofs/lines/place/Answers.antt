@@ -1,6 +1,5 @@
-use Rattle.std.proofs.Common.{◌≡◌, List, [], ℕ, take, drop, sym, ap, ◌∙◌}
+use Rattle.std.proofs.Common.{◌≡◌, [], take, drop, sym, ap, ◌∙◌}
 use Rattle.std.proofs.Math.ListN.{drop_of_length-le}
-use Rattle.fsl_token.specs.declared.places.Place.{Place}
 use Rattle.fsl_token.proofs.Counting.{walk_bytes, bytes_place}
 use Rattle.fsl_token.proofs.lines.place.Goals as goal
 

@@ -1,5 +1,4 @@
 use Rattle.std.proofs.Common.{◌≡◌, ◌+◌, ◌≤◌, drop, take}
-use Rattle.fsl_token.specs.declared.places.Place.{Place}
 use Rattle.fsl_token.proofs.Counting.{walk_bytes}
 use Rattle.fsl_token.proofs.lines.place.Given as goal
 
