@@ -1,5 +1,5 @@
 -- Each piece ends where the text may be cut.
-use Rattle.std.proofs.Common.{◌≡◌, ℕ, ◌+◌, ◌-◌, ◌<◌, ◌≤◌, Bool, true, false, cond, ◌⊎◌, ⊎_elim, Option, Some, None, List, [], ◌∷◌, ◌++◌, length, take, drop, get_or, refl, sym, ap, ◌∙◌, subst, arith, nat_eq, nat_lt, nat_le, not, ◌&&◌, length-append}
+use Rattle.std.proofs.Common.{◌≡◌, ℕ, ◌+◌, ◌-◌, ◌<◌, ◌≤◌, Bool, true, false, cond, ⊎_elim, Option, Some, None, List, [], ◌∷◌, ◌++◌, length, drop, get_or, refl, sym, ap, ◌∙◌, subst, arith, nat_eq, nat_lt, nat_le, not, ◌&&◌, length-append}
 use Rattle.std.proofs.lemmas.Bool.{and_parts, or_cases, eqb-true, ltb-true, cases_Bool, true≢false, false≢true, not-false}
 use Rattle.std.proofs.lemmas.List.Sums.{prefix_len-le-length, prefix_len_stops}
 use Rattle.std.proofs.lemmas.List.Folds.{length-prefix_len, list_all_at}
@@ -8,13 +8,13 @@ use Rattle.std.proofs.lemmas.Bool.Decides.{Decides-eqb}
 use Rattle.std.proofs.lemmas.Slice.Eq.{starts_is}
 use Rattle.std.proofs.lemmas.Str.{IsCharBoundary-after_ascii, IsCharBoundary-at_seam}
 use Rattle.std.specs.Char.{is_ascii_digit, is_newline}
-use Rattle.std.specs.List.{prefix_len, position_or_len, list_all, find, starts_with}
+use Rattle.std.specs.List.{list_all, find, starts_with}
 use Rattle.std.specs.Option.{unwrap_or}
 use Rattle.std.specs.Str.{IsUtf8, IsCharBoundary}
 use Rattle.std.specs.Str.Parse.{digits_value}
 use Rattle.fsl_token.specs.declared.kind.TokenKind.{TokenKind}
 use Rattle.fsl_token.specs.declared.piece.Piece.{Piece}
-use Rattle.fsl_token.specs.Words.{fixed_text, fixed_len, fits, begins, symbols, symbol_kind, word_kind}
+use Rattle.fsl_token.specs.Words.{fixed_text, fits, begins, symbols, symbol_kind, word_kind}
 use Rattle.fsl_token.specs.Tokens.{is_blank, begins_comment, comment_len, leading_digits, number_piece, leading_name, name_piece, symbol_piece, first_piece}
 use Rattle.fsl_token.proofs.Digits.{run_begun, digits_cut}
 use Rattle.fsl_token.proofs.Names.{name_split, after_name, after_name_utf8}

@@ -6,7 +6,6 @@ use Rattle.std.specs.Str.{chars, encode_utf8_all, is_utf8}
 use Rattle.std.specs.Str.Lossy.{utf8_valid_len}
 use Rattle.std.specs.Str.Parse.{digits_value}
 use Rattle.unicode_ident.specs.Ident.{is_xid_start, is_xid_continue}
-use Rattle.fsl_base.specs.declared.span.Span.{Span}
 use Rattle.fsl_token.specs.declared.kind.Token.{Token}
 use Rattle.fsl_token.specs.declared.kind.TokenKind.{TokenKind}
 use Rattle.fsl_token.specs.declared.fault.LexFault.{LexFault}

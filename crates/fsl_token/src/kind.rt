@@ -303,7 +303,7 @@ impl TokenKind {
     }
 
     /// How many bytes the fixed text has; 0 for names and numbers.
-    pub fn fixed_len(self) -> usize
+    pub(crate) fn fixed_len(self) -> usize
         ensures { result ≡ fixed_len self }
     {
         match self.fixed_text() {
@@ -313,14 +313,14 @@ impl TokenKind {
     }
 
     /// The kind of a name: a reserved word, `_` alone, or a `Name`.
-    pub fn of_name(name: &[u8]) -> TokenKind
+    pub(crate) fn of_name(name: &[u8]) -> TokenKind
         ensures { result ≡ word_kind name.now }
     {
         with_text(&WORDS, name).unwrap_or(TokenKind::Name)
     }
 
     /// The longest symbol but `_` that begins a text; `None` where none does.
-    pub fn first_symbol(text: &str) -> Option<TokenKind>
+    pub(crate) fn first_symbol(text: &str) -> Option<TokenKind>
         ensures { result ≡ symbol_kind text.now }
     {
         that_begins(&SYMBOLS, text)

@@ -15,7 +15,7 @@ const LONGEST_NAME: usize = 64;
 
 /// What begins a text that isn't empty.
 #[derive(Clone, Copy, Debug, PartialEq, Eq)]
-pub enum Piece {
+pub(crate) enum Piece {
     /// A blank or a comment of `len` bytes.
     Gap {
         len: usize,
@@ -36,7 +36,7 @@ pub enum Piece {
 
 impl Piece {
     /// What begins a text. It looks at no byte but those of the piece and the character behind it.
-    pub fn first(text: &str) -> Piece
+    pub(crate) fn first(text: &str) -> Piece
         requires { 0 < length text.now }
         ensures { result ≡ first_piece text.now }
     {

@@ -1,5 +1,5 @@
-use Rattle.std.proofs.Common.{◌≡◌, ◌⊎◌, inl, inr, ⊎_elim, ◌∙◌, ap, sym}
-use Rattle.fsl_token.specs.Tokens.{tokens_from, lexed}
+use Rattle.std.proofs.Common.{inl, inr, ⊎_elim, ◌∙◌, ap}
+use Rattle.fsl_token.specs.Tokens.{tokens_from}
 use Rattle.fsl_token.proofs.Lexing.{lexed_text, lexed_not_text}
 use Rattle.fsl_token.proofs.cutting.lex.Goals as goal
 

@@ -1,6 +1,6 @@
 use Rattle.std.proofs.Common.{length, ◌-◌, ◌≡◌, ◌≤◌, ◌+◌, drop}
-use Rattle.std.specs.Char.{is_newline, is_ascii_digit}
-use Rattle.std.specs.List.{prefix_len, position_or_len}
+use Rattle.std.specs.Char.{is_newline}
+use Rattle.std.specs.List.{position_or_len}
 use Rattle.fsl_token.proofs.piece.comment_len.Given as goal
 
 abbrev pub invariant-loop-len : goal.invariant-loop-len

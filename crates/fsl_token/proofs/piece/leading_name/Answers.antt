@@ -1,4 +1,4 @@
-use Rattle.std.proofs.Common.{◌≡◌, length, ◌∙◌, sym, arith, subst, take}
+use Rattle.std.proofs.Common.{◌≡◌, ◌∙◌, sym, arith, subst, take}
 use Rattle.fsl_token.specs.Tokens.{leading_name}
 use Rattle.fsl_token.proofs.Names.{name_taken}
 use Rattle.fsl_token.proofs.piece.leading_name.Goals as goal

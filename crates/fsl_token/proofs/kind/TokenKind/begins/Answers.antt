@@ -1,7 +1,7 @@
-use Rattle.std.proofs.Common.{◌≡◌, ℕ, List, ◌∙◌, ap, nat_eq}
+use Rattle.std.proofs.Common.{ℕ, List, ◌∙◌, ap, nat_eq}
 use Rattle.std.specs.List.{starts_with}
 use Rattle.std.proofs.lemmas.Str.Pattern.{starts_text}
-use Rattle.fsl_token.specs.Words.{fixed_text, fits, begins}
+use Rattle.fsl_token.specs.Words.{fits}
 use Rattle.fsl_token.proofs.kind.TokenKind.begins.Goals as goal
 
 -- the text of the kind is the one that was looked for

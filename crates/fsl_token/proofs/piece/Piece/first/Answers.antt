@@ -3,7 +3,6 @@ use Rattle.std.specs.Char.{is_ascii_digit}
 use Rattle.std.specs.Prelude.{codes}
 use Rattle.std.proofs.lemmas.Str.Pattern.{starts_text}
 use Rattle.std.proofs.lemmas.Bool.{lt-ltb, le-ltb, eqb-true, eqb-false}
-use Rattle.fsl_token.specs.declared.piece.Piece.{Piece}
 use Rattle.fsl_token.specs.Words.{symbol_kind}
 use Rattle.fsl_token.specs.Tokens.{is_blank, begins_comment, leading_name, name_piece, symbol_piece, first_piece}
 use Rattle.fsl_token.proofs.Pieces.{fourth_way}

@@ -1,7 +1,6 @@
-use Rattle.std.proofs.Common.{◌≡◌, length, take, ◌∙◌, sym, ap, arith, subst, ℕ, get_or, true}
+use Rattle.std.proofs.Common.{◌≡◌, take, ◌∙◌, ap, arith}
 use Rattle.std.specs.Char.{is_ascii_digit}
 use Rattle.std.specs.List.{prefix_len}
-use Rattle.fsl_token.specs.Tokens.{leading_digits}
 use Rattle.fsl_token.proofs.Digits.{digits_cut, too_long}
 use Rattle.fsl_token.proofs.piece.Piece.number.Goals as goal
 use Rattle.fsl_token.proofs.piece.Piece.number.Goals.{After-digits_len}
