@@ -10,6 +10,7 @@ mod label;
 mod mode;
 mod need;
 mod program;
+mod straight;
 mod verdict;
 
 pub use act::{Act, Called, Step, Stmt};
@@ -20,4 +21,5 @@ pub use label::{Ended, Label};
 pub use mode::{AllocKind, Mode, Rung};
 pub use need::{Need, Reply, RmwOp, Standing, Started};
 pub use program::{Inv, Proc, Program};
+pub use straight::is_straight;
 pub use verdict::{Kind, Mood, Outcome, Verdict};

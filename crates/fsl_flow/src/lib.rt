@@ -1,0 +1,12 @@
+//! The paths of a procedure, followed by the rules one statement after the other, up to the first failure.
+#![tactic(auto)]
+
+mod cell;
+mod known;
+mod outcomes;
+mod rules;
+mod state;
+mod stop;
+mod term;
+
+pub use outcomes::{built, outcome};
