@@ -1,5 +1,5 @@
 -- Facts that a state gains, and the number that a term is.
-use Rattle.std.proofs.Common.{◌≡◌, ℕ, ◌<◌, List, [], ◌∷◌, ◌++◌, length, Option, Some, None, ℤ, refl, arith}
+use Rattle.std.proofs.Common.{◌≡◌, List, [], ◌∷◌, ◌++◌, length, Some, None, ℤ, refl, arith}
 use Rattle.fsl_core.specs.Facts as known
 use Rattle.fsl_core.specs.Facts.{number_of}
 use Rattle.fsl_lin.specs.declared.fact.Fact.{Fact}

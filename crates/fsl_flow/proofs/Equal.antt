@@ -41,8 +41,8 @@ pub proved_equal : (facts : List Fact) (a b : Combination) → IsKept a → IsKe
 proved_equal facts a b ka kb h =
     let z : IsZero (minus a b).terms (minus a b).rest = nought (minus a b).terms (minus a b).rest h in
     equal_by_coefficients a b ka kb
-        (λ s. equal_at (coefficient a s) (coefficient b s) (sym (minus_at a b s) ∙ at_zero (minus a b) s z.no_terms))
-        (equal_at a.rest b.rest z.no_rest)
+    (λ s. equal_at (coefficient a s) (coefficient b s) (sym (minus_at a b s) ∙ at_zero (minus a b) s z.no_terms))
+    (equal_at a.rest b.rest z.no_rest)
 
 not_true : (p : Bool) → (p ≡ true → ⊥) → p ≡ false
 not_true true h = absurd (h refl)

@@ -1,15 +1,15 @@
 -- What a statement makes of the ends after it is what its rule says.
-use Rattle.std.proofs.Common.{◌≡◌, ℕ, List, [], ◌∷◌, ◌++◌, map, refl, sym, ap, ◌∙◌, append-nil}
+use Rattle.std.proofs.Common.{◌≡◌, ℕ, List, ◌∷◌, map, refl, sym, ap, ◌∙◌, append-nil}
 use Rattle.fsl_base.specs.declared.span.Span.{Span}
 use Rattle.fsl_core.specs.declared.act.Act.{Act}
 use Rattle.fsl_core.specs.declared.act.Stmt.{Stmt}
 use Rattle.fsl_core.specs.declared.act.Act.TheOpen.{Act-F}
 use Rattle.fsl_core.specs.declared.act.Act.TheViews.{out-Act}
-use Rattle.fsl_core.specs.declared.act.Act.TheFolds.{fold-Act, fold-Stmt, fold_out-Act, fold_out-Stmt, map-Act}
+use Rattle.fsl_core.specs.declared.act.Act.TheFolds.{fold-Stmt, fold_out-Act, fold_out-Stmt, map-Act}
 use Rattle.fsl_core.specs.declared.mode.Mode.TheVariants.{Na}
 use Rattle.fsl_core.specs.declared.verdict.Kind.{Kind}
 use Rattle.fsl_core.specs.declared.verdict.Outcome.TheVariants.{Fails}
-use Rattle.fsl_core.specs.Paths.{End, Ends, Meaning, each, block, act_step, stmt_step, act_meaning, meaning}
+use Rattle.fsl_core.specs.Paths.{Ends, Meaning, each, block, act_step, stmt_step, act_meaning, meaning}
 use Rattle.fsl_core.specs.Rules.{Rule, goes_on, failing}
 use Rattle.fsl_core.specs.States.{State, Branch}
 use Rattle.fsl_core.specs.Verdicts.{outcome_from}

@@ -1,5 +1,5 @@
 -- The fact that the address of a new cell is at least 1.
-use Rattle.std.proofs.Common.{◌≡◌, ℕ, zero, suc, ◌^◌, Bool, true, List, [], ◌∷◌, ◌++◌, replicate, ℤ, pos, ◌-ℤ◌, refl, sym, subst}
+use Rattle.std.proofs.Common.{◌≡◌, ℕ, zero, suc, ◌^◌, true, [], ◌∷◌, ◌++◌, replicate, pos, ◌-ℤ◌, refl, sym, subst}
 use Rattle.fsl_lin.specs.Combination.{Combination, joined, are_within, is_narrow, constant, symbol, minus}
 use Rattle.fsl_lin.proofs.Kept.{narrow_trimmed}
 

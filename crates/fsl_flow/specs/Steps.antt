@@ -12,7 +12,7 @@ use Rattle.fsl_core.specs.declared.verdict.Kind.TheVariants.{Term}
 use Rattle.fsl_core.specs.Conditions.{proved}
 use Rattle.fsl_core.specs.Rules as rules
 use Rattle.fsl_core.specs.Rules.{Rule, failing, goes_on, given_term, alloc_na, asserting}
-use Rattle.fsl_core.specs.States.{State, Branch}
+use Rattle.fsl_core.specs.States.{Branch}
 use Rattle.fsl_core.specs.Straight.{is_straight_act}
 use Rattle.fsl_core.specs.Terms.{term_of}
 use Rattle.fsl_lin.specs.Combination.{Combination}

@@ -8,5 +8,7 @@ mod rules;
 mod state;
 mod stop;
 mod term;
+#[cfg(test)]
+mod tests;
 
 pub use outcomes::{built, outcome};

@@ -1,5 +1,9 @@
+pub mod Arrays
 pub mod Coefficients
+pub mod Few
 pub mod Kept
+pub mod MoreRows
+pub mod Pivots
 pub mod Reduced
 pub mod Ring
 pub mod Rows

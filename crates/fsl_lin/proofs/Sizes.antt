@@ -1,9 +1,8 @@
 -- Sums and products of numbers of bounded size.
-use Rattle.std.proofs.Common.{◌≡◌, ℕ, zero, suc, ◌+◌, ◌*◌, ◌<◌, ◌≤◌, ◌^◌, Bool, true, ℤ, pos, negsuc, ◌+ℤ◌, ◌-ℤ◌, ◌*ℤ◌, ◌≤ℤ◌, neg_ℤ, unsigned_abs, FitsSigned, to_z, of_z, lit<, refl, sym, ap, ◌∙◌, arith}
+use Rattle.std.proofs.Common.{◌≡◌, ℕ, ◌+◌, ◌*◌, ◌<◌, ◌≤◌, ◌^◌, true, ℤ, pos, negsuc, ◌+ℤ◌, ◌-ℤ◌, ◌*ℤ◌, unsigned_abs, FitsSigned, to_z, of_z, lit<, ap, ◌∙◌, arith}
 use Rattle.std.specs.Int.{w128}
 use Rattle.std.proofs.lemmas.Int.{ints, to_z-of_z, unsigned_abs-mul, fits_signed_from_abs}
 use Rattle.std.proofs.lemmas.Nat.{mul-le}
-use Rattle.std.proofs.lemmas.Grind.{common_steps}
 use Rattle.std.proofs.lemmas.Bool.{leb-true, ltb-true}
 use Rattle.fsl_lin.specs.Combination.{is_within}
 use Rattle.fsl_lin.specs.Sizes.{IsSize}
@@ -44,13 +43,13 @@ pub share_fits : (x y : ℤ) → is_within (2 ^ 24) x ≡ true → is_within (2 
     → FitsSigned w128 (to_z w128 (of_z w128 x) *ℤ to_z w128 (of_z w128 y))
 share_fits x y h k =
     rw (to_z-of_z w128 x (fits_within (2 ^ 24) x h (lit< tt)), to_z-of_z w128 y (fits_within (2 ^ 90) y k (lit< tt)))
-      (size_fits (2 ^ 114) (x *ℤ y) (share_size x y h k) (lit< tt))
+    (size_fits (2 ^ 114) (x *ℤ y) (share_size x y h k) (lit< tt))
 
 pub share_value : (x y : ℤ) → is_within (2 ^ 24) x ≡ true → is_within (2 ^ 90) y ≡ true
     → to_z w128 (of_z w128 (to_z w128 (of_z w128 x) *ℤ to_z w128 (of_z w128 y))) ≡ x *ℤ y
 share_value x y h k =
     to_z-of_z w128 (to_z w128 (of_z w128 x) *ℤ to_z w128 (of_z w128 y)) (share_fits x y h k)
-      ∙ (λ i. to_z-of_z w128 x (fits_within (2 ^ 24) x h (lit< tt)) i *ℤ to_z-of_z w128 y (fits_within (2 ^ 90) y k (lit< tt)) i)
+    ∙ (λ i. to_z-of_z w128 x (fits_within (2 ^ 24) x h (lit< tt)) i *ℤ to_z-of_z w128 y (fits_within (2 ^ 90) y k (lit< tt)) i)
 
 pub share_sized : (x y : ℤ) → is_within (2 ^ 24) x ≡ true → is_within (2 ^ 90) y ≡ true
     → IsSize (2 ^ 114) (to_z w128 (of_z w128 (to_z w128 (of_z w128 x) *ℤ to_z w128 (of_z w128 y))))
@@ -69,4 +68,4 @@ pub running_value : (k : ℕ) (s x : ℤ) → k < 512 → IsSize (k * 2 ^ 114) s
     → to_z w128 (of_z w128 (s +ℤ to_z w128 (of_z w128 x))) ≡ s +ℤ x
 running_value k s x few h l =
     to_z-of_z w128 (s +ℤ to_z w128 (of_z w128 x)) (running_fits k s x few h l)
-      ∙ ap (λ (z : ℤ). s +ℤ z) (to_z-of_z w128 x (size_fits (2 ^ 114) x l (lit< tt)))
+    ∙ ap (λ (z : ℤ). s +ℤ z) (to_z-of_z w128 x (size_fits (2 ^ 114) x l (lit< tt)))

@@ -1,7 +1,7 @@
 -- The reduced equations that a list of them keeps.
-use Rattle.std.specs.Prelude.{◌≡◌, ℕ, suc, ◌<◌, List, [], ◌∷◌, ℤ, pos, ◌*ℤ◌, get_or}
+use Rattle.std.specs.Prelude.{suc, ◌<◌, List, [], ◌∷◌}
 use Rattle.fsl_lin.specs.Combination.{IsKept}
-use Rattle.fsl_lin.specs.Numbers.{Numbers, part}
+use Rattle.fsl_lin.specs.Numbers.{part}
 use Rattle.fsl_lin.specs.Rows.{Row, IsReduced}
 use Rattle.fsl_lin.specs.declared.equation.Equation.{Equation}
 
@@ -20,11 +20,3 @@ AreNarrow (e ∷ es) = (e.sym.0 < 512) × IsKept e.lin × AreNarrow es
 pub record AreKept (es : List Equation) : Type 0 where
   pub narrow : AreNarrow es
   pub reduced : IsReduced (rows_of es)
-
--- the numbers of a list, and 0 past its end
-abbrev pub listed : List ℤ → Numbers
-listed ns i = get_or ns i (pos 0)
-
--- k times each number
-abbrev pub scaled : ℤ → Numbers → Numbers
-scaled k n i = n i *ℤ k

@@ -5,5 +5,6 @@ pub mod Numbers
 pub mod Rows
 pub mod Sign
 pub mod Sizes
+pub mod Step
 pub mod Values
 pub mod Walks

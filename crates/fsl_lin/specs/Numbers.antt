@@ -1,5 +1,5 @@
 -- A term as the numbers of its places: place 0 has the constant, and place s + 1 the coefficient of symbol s.
-use Rattle.std.specs.Prelude.{ℕ, zero, suc, ◌^◌, Bool, true, ◌&&◌, ℤ, pos, neg_ℤ}
+use Rattle.std.specs.Prelude.{ℕ, zero, suc, ◌^◌, Bool, true, ◌&&◌, ℤ, pos, neg_ℤ, List, get_or, ◌*ℤ◌}
 use Rattle.std.specs.Ordering.{int_eq}
 use Rattle.fsl_lin.specs.Combination.{Combination, coefficient, is_within}
 
@@ -39,3 +39,11 @@ within_above bound (suc k) n = is_within bound (n (suc k)) && within_above bound
 -- a `Lin` has room for these numbers: each coefficient is at most 2^24 in size, and the constant at most 2^90
 abbrev pub fits : Numbers → Bool
 fits n = is_within (2 ^ 90) (n 0) && within_above (2 ^ 24) most n
+
+-- the numbers of a list, and 0 past its end
+abbrev pub listed : List ℤ → Numbers
+listed ns i = get_or ns i (pos 0)
+
+-- k times each number
+abbrev pub scaled : ℤ → Numbers → Numbers
+scaled k n i = n i *ℤ k

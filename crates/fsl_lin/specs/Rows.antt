@@ -90,3 +90,8 @@ took rs t = took_of (normal rs t) (pivot_below most (normal rs t))
 abbrev pub rows_fit : List Row → Bool
 rows_fit [] = true
 rows_fit (r ∷ rs) = fits r.numbers && rows_fit rs
+
+-- each row in normal form by others
+abbrev pub all_normal : List Row → List Row → List Row
+all_normal rs [] = []
+all_normal rs (q ∷ qs) = record { pivot = q.pivot; numbers = normal rs q.numbers } ∷ all_normal rs qs

@@ -120,6 +120,32 @@ pub fn products(alloc: Global, terms: &[i32], k: &i128) -> Result<Vec<i32>, LinF
     Ok(scaled)
 }
 
+/// The product of two numbers, if it is no greater than a coefficient may be.
+fn number_product(x: &i128, k: &i128) -> Option<i32>
+    ensures { IsTerm (x.now *ℤ k.now) result }
+{
+    match x.checked_mul(*k) {
+        Some(exact) => term(exact),
+        None => None,
+    }
+}
+
+/// The products of each number, of any size, and another one.
+pub fn number_products(alloc: Global, numbers: &[i128], k: &i128) -> Result<Vec<i32>, LinFault>
+    ensures exact { IfOk result (λ scaled. scaled.items ≡ products k.now numbers.now) }
+    ensures narrow { OnOk result (are_within (2 ^ 24) (products k.now numbers.now) ≡ true) }
+    ensures wide { IsErrOf result LinFault.Wide → are_within (2 ^ 24) (products k.now numbers.now) ≡ false }
+{
+    let mut scaled = Vec::new(alloc);
+    for number in numbers {
+        match number_product(number, k) {
+            Some(term) => scaled.push(term)?,
+            None => return Err(LinFault::Wide),
+        }
+    }
+    Ok(scaled)
+}
+
 /// Takes the zeros at the end off.
 pub fn trim(terms: &mut Vec<i32>)
     ensures { terms.new.items ≡ trim terms.old.items }

@@ -4,17 +4,24 @@
 
 mod combine;
 mod edge;
+mod eqs;
 mod equation;
+mod extend;
 mod fact;
 mod fault;
 pub mod laws;
 mod lin;
 mod normal;
+mod places;
 mod sign;
+mod step;
 mod sym;
+#[cfg(test)]
+mod tests;
 mod took;
 
 pub use edge::Edge;
+pub use eqs::Eqs;
 pub use equation::Equation;
 pub use fact::Fact;
 pub use fault::LinFault;

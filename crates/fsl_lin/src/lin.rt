@@ -2,10 +2,12 @@
 //! true result passes its bound.
 ghost use Rattle.std.specs.Prelude.{◌≡◌, ◌<◌, ◌≤◌, ◌^◌, ◌↔◌, IsTrue, IfOk, OnOk, IsErrOf, IsOkUnless, true, false, length};
 ghost use Rattle.fsl_lin.specs.Combination.{IsKept, combined, plus, minus, times, constant, symbol, coefficient, trimmed, is_narrow, is_within, are_within};
-ghost use Rattle.fsl_lin.specs.Numbers.{part};
+ghost use Rattle.fsl_lin.specs.Numbers.{part, fits, listed, scaled};
 ghost use Rattle.fsl_lin.specs.Sign.{signed};
 
-use crate::combine::{at, joined, products, rest, rest_joined, rest_product, trim, unit};
+use crate::combine::{
+    at, joined, number_products, products, rest, rest_joined, rest_product, trim, unit,
+};
 use crate::fault::LinFault;
 use crate::sign::Sign;
 use crate::sym::Sym;
@@ -145,6 +147,26 @@ impl Lin {
             return Err(LinFault::Wide);
         };
         match products(alloc, self.terms.as_slice(), k) {
+            Ok(terms) => Ok(Lin::from_parts(terms, rest)),
+            Err(fault) => Err(fault),
+        }
+    }
+
+    /// The combination of k times each number of an array of all places, which may be of any size.
+    pub fn from_numbers(alloc: Global, numbers: &[i128], k: &i128) -> Result<Lin, LinFault>
+        requires { length numbers.now ≡ 513 }
+        ensures exact { IfOk result (λ lin. part lin ≡ scaled k.now (listed numbers.now)) }
+        ensures kept { IfOk result (λ lin. IsKept lin) }
+        ensures narrow { OnOk result (fits (scaled k.now (listed numbers.now)) ≡ true) }
+        ensures wide { IsErrOf result LinFault.Wide → fits (scaled k.now (listed numbers.now)) ≡ false }
+    {
+        let Some((constant, coefficients)) = numbers.split_first() else {
+            unreachable!();
+        };
+        let Some(rest) = rest_product(constant, k) else {
+            return Err(LinFault::Wide);
+        };
+        match number_products(alloc, coefficients, k) {
             Ok(terms) => Ok(Lin::from_parts(terms, rest)),
             Err(fault) => Err(fault),
         }

@@ -3,3 +3,4 @@ pub mod Names
 pub mod Pieces
 pub mod Lexing
 pub mod Counting
+pub mod Law

@@ -1,7 +1,7 @@
 -- The name that begins a text, and what follows it.
 use Rattle.std.proofs.Common.{◌≡◌, ℕ, ◌+◌, ◌≤◌, Bool, true, false, cond, List, [], ◌∷◌, ◌++◌, length, take, drop, refl, sym, ap, ◌∙◌, subst, arith, length-append, take-append-drop}
-use Rattle.std.proofs.lemmas.Bool.{and_parts}
-use Rattle.std.proofs.lemmas.Str.{encodes-append, encodes-chars, scalars-chars, chars_past_char, length-encode}
+use Rattle.std.proofs.lemmas.Bool.{and_parts, and_from}
+use Rattle.std.proofs.lemmas.Str.{chars-encodes, encodes-append, encodes-chars, scalars-chars, chars_past_char, length-encode}
 use Rattle.std.proofs.lemmas.List.Sums.{take_while-cons}
 use Rattle.std.proofs.lemmas.List.Folds.{length-prefix_len}
 use Rattle.std.proofs.Math.Seq.{take-append_seam}
@@ -20,7 +20,7 @@ starts : (b : Bool) (c : ℕ) (cs : List ℕ) → cond b (c ∷ take_while is_xi
 starts true c cs = ap (λ l. c ∷ l) (run_split is_xid_continue cs)
 starts false c cs = refl
 
-name_chars_split : (cs : List ℕ) → name_chars cs ++ drop (length (name_chars cs)) cs ≡ cs
+pub name_chars_split : (cs : List ℕ) → name_chars cs ++ drop (length (name_chars cs)) cs ≡ cs
 name_chars_split [] = refl
 name_chars_split (c ∷ cs) = starts (starts_name c) c cs
 
@@ -71,3 +71,30 @@ name_begun text rest c utf8 next begins =
 -- a step over a character takes its bytes from the text
 pub past_char_len : (before rest : List ℕ) (c : ℕ) → before ≡ encode_utf8 c ++ rest → length before ≡ len_utf8 c + length rest
 past_char_len before rest c next = ap length next ∙ length-append (encode_utf8 c) rest ∙ ap (λ n. n + length rest) (length-encode c)
+
+again : {A : Type 0} (p : A → Bool) (b : Bool) (x : A) (xs : List A) → p x ≡ b → take_while p xs ≡ xs → take_while p (cond b (x ∷ xs) []) ≡ cond b (x ∷ xs) []
+again p true x xs passes rest = take_while-cons p x xs ∙ ap (λ b. cond b (x ∷ take_while p xs) []) passes ∙ ap (λ ys. x ∷ ys) rest
+again p false x xs passes rest = refl
+
+-- what passes a test passes it again
+pub run_again : {A : Type 0} (p : A → Bool) (xs : List A) → take_while p (take_while p xs) ≡ take_while p xs
+run_again p [] = refl
+run_again p (x ∷ xs) = ap (take_while p) (take_while-cons p x xs) ∙ again p (p x) x (take_while p xs) refl (run_again p xs) ∙ sym (take_while-cons p x xs)
+
+named_again : (b : Bool) (c : ℕ) (cs : List ℕ) → starts_name c ≡ b → name_chars (cond b (c ∷ take_while is_xid_continue cs) []) ≡ cond b (c ∷ take_while is_xid_continue cs) []
+named_again true c cs starts = ap (λ b. cond b (c ∷ take_while is_xid_continue (take_while is_xid_continue cs)) []) starts ∙ ap (λ ys. c ∷ ys) (run_again is_xid_continue cs)
+named_again false c cs starts = refl
+
+name_chars_again : (cs : List ℕ) → name_chars (name_chars cs) ≡ name_chars cs
+name_chars_again [] = refl
+name_chars_again (c ∷ cs) = named_again (starts_name c) c cs refl
+
+scalars_before : (xs ys : List ℕ) → scalars (xs ++ ys) ≡ true → scalars xs ≡ true
+scalars_before [] ys all = refl
+scalars_before (x ∷ xs) ys all = and_from _ _ (and_parts _ _ all).0 (scalars_before xs ys (and_parts _ _ all).1)
+
+-- a name is the name that begins it
+pub name_again : (text : List ℕ) → IsUtf8 text → leading_name (leading_name text) ≡ leading_name text
+name_again text utf8 =
+    let whole : chars (leading_name text) ≡ name_chars (chars text) = chars-encodes (name_chars (chars text)) (scalars_before (name_chars (chars text)) _ (ap scalars (name_chars_split (chars text)) ∙ scalars-chars text utf8)) in
+    ap (λ cs. encode_utf8_all (name_chars cs)) whole ∙ ap encode_utf8_all (name_chars_again (chars text))

@@ -32,7 +32,7 @@ CutsBy text Piece.LongNumber = Unit {0}
 CutsBy text Piece.LongName = Unit {0}
 
 -- what holds of both choices holds of the chosen one
-either : {A : Type 0} (P : A → Type 0) (b : Bool) (x y : A) → (b ≡ true → P x) → (b ≡ false → P y) → P (cond b x y)
+pub either : {A : Type 0} (P : A → Type 0) (b : Bool) (x y : A) → (b ≡ true → P x) → (b ≡ false → P y) → P (cond b x y)
 either P true x y p q = p refl
 either P false x y p q = q refl
 
@@ -96,7 +96,7 @@ fixed_cut text None utf8 begun ascii = absurd (false≢true begun)
 fixed_cut text (Some fixed) utf8 begun ascii = text_cut text fixed utf8 ((starts_is Decides-eqb text fixed _ refl).0 begun) (ltb-true _ _ (and_parts _ _ ascii).0) (and_parts _ _ ascii).1
 
 -- what is found passes the test, and any other test that all items pass
-found : {A : Type 0} (P : Option A → Type 0) (p q : A → Bool) (xs : List A) → list_all q xs ≡ true → P None → ((x : A) → p x ≡ true → q x ≡ true → P (Some x)) → P (find p xs)
+pub found : {A : Type 0} (P : Option A → Type 0) (p q : A → Bool) (xs : List A) → list_all q xs ≡ true → P None → ((x : A) → p x ≡ true → q x ≡ true → P (Some x)) → P (find p xs)
 found P p q [] all none some = none
 found P p q (x ∷ xs) all none some = either P (p x) (Some x) (find p xs) (λ passes. some x passes (and_parts _ _ all).0) (λ _. found P p q xs (and_parts _ _ all).1 none some)
 

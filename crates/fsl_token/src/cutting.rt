@@ -1,6 +1,7 @@
 //! Cuts a file into tokens.
-ghost use Rattle.std.specs.Prelude.{◌≡◌, ◌<◌, ◌^◌, ◌⊎◌, length, Err};
+ghost use Rattle.std.specs.Prelude.{◌≡◌, ◌<◌, ◌^◌, ◌⊎◌, length, Err, IfOk};
 ghost use Rattle.fsl_token.specs.declared.fault.LexFault.{LexFault};
+ghost use Rattle.fsl_token.specs.Reading.{AreTokensOf};
 ghost use Rattle.fsl_token.specs.Tokens.{tokens_from, lexed};
 
 use crate::fault::LexFault;
@@ -14,7 +15,8 @@ use std::alloc::Global;
 /// It goes over the bytes once.
 pub fn lex(alloc: Global, bytes: &[u8]) -> Result<List<Token>, LexFault>
     requires { length bytes.now < 2 ^ 32 }
-    ensures { (result ≡ Err LexFault.NoMemory) ⊎ (result ≡ lexed bytes.now) }
+    ensures exact { (result ≡ Err LexFault.NoMemory) ⊎ (result ≡ lexed bytes.now) }
+    ensures read { IfOk result (λ tokens. AreTokensOf 0 bytes.now tokens) }
 {
     match str::from_utf8(bytes) {
         Ok(text) => tokens(alloc, text),

@@ -9,7 +9,7 @@ overflow_mul-result c = share_fits c.coefficient.result c.part.result c.coeffici
 pub returns-clause-value : goal.returns-clause-value
 returns-clause-value c =
     share_value c.coefficient.result c.part.result c.coefficient.ensures.narrow c.part.ensures.narrow
-      ∙ (λ i. c.coefficient.ensures.value i *ℤ c.part.ensures.value i)
+    ∙ (λ i. c.coefficient.ensures.value i *ℤ c.part.ensures.value i)
 
 pub returns-clause-size : goal.returns-clause-size
 returns-clause-size c = share_sized c.coefficient.result c.part.result c.coefficient.ensures.narrow c.part.ensures.narrow

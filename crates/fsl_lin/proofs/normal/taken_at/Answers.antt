@@ -11,4 +11,5 @@ loop-equation-preserved c =
     rw value (record {
       left = left_step c.args.equations.now c.loop-equation.equation-index c.equation-item.result c.args.t.now c.args.i _ c.share_at-sum.result _
           within c.equation-item.is c.share_at-sum.ensures.value c.loop-equation.invariant.left;
-      size = running_size c.loop-equation.equation-index _ c.share_at-sum.result c.loop-equation.invariant.size c.share_at-sum.ensures.size })
+      size = running_size c.loop-equation.equation-index _ c.share_at-sum.result c.loop-equation.invariant.size c.share_at-sum.ensures.size;
+    })

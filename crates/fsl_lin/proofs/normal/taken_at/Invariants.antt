@@ -8,4 +8,5 @@ use Rattle.fsl_lin.proofs.normal.taken_at.Given as goal
 abbrev pub invariant-loop-equation : goal.invariant-loop-equation
 invariant-loop-equation l = record {
   left : l.sum +ℤ taken (rows_of (drop l.equation-index l.equations)) (part l.t) l.i ≡ taken (rows_of l.equations) (part l.t) l.i;
-  size : IsSize (l.equation-index * 2 ^ 114) l.sum }
+  size : IsSize (l.equation-index * 2 ^ 114) l.sum;
+}

@@ -1,4 +1,4 @@
-use Rattle.std.proofs.Common.{◌≡◌, ◌-◌, ◌+◌, length, pos, sym, ◌∙◌, arith}
+use Rattle.std.proofs.Common.{◌≡◌, ◌-◌, ◌+◌, length, pos, arith}
 use Rattle.fsl_lin.specs.Combination.{constant}
 use Rattle.fsl_flow.proofs.Last.{last_at}
 use Rattle.fsl_flow.proofs.state.State.result.Goals as goal
