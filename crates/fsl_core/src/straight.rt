@@ -144,3 +144,65 @@ pub fn is_straight(p: &Program) -> bool
 {
     p.invs.is_empty() && p.procs.len() == 1 && is_straight_proc(&p.procs.as_slice()[0])
 }
+
+#[cfg(test)]
+mod tests {
+    use super::is_straight;
+    use crate::act::{Act, Stmt};
+    use crate::assertion::Asrt;
+    use crate::expr::Expr;
+    use crate::program::{Proc, Program};
+    use fsl_base::{Boxed, List, Span, Text};
+    use std::alloc::{AllocError, Global};
+
+    fn set(slot: u32, e: Expr) -> Stmt {
+        Stmt {
+            span: Span { from: 0, to: 0 },
+            act: Act::Set { slot, e },
+        }
+    }
+
+    fn first() -> Stmt {
+        set(0, Expr::Const { n: 1 })
+    }
+
+    // The program whose `main` has two variables and sets two in turn.
+    fn program(alloc: Global, first: Stmt, second: Stmt) -> Result<Program, AllocError> {
+        let mut body = List::new(alloc);
+        body.push(first)?;
+        body.push(second)?;
+        let name = Text::from_str(alloc, "main")?;
+        let mut procs = List::new(alloc);
+        procs.push(Proc {
+            name,
+            params: 0,
+            slots: 2,
+            banks: List::new(alloc),
+            pre: Asrt::Emp,
+            post: Asrt::Emp,
+            body,
+            last: Span { from: 0, to: 0 },
+        })?;
+        let invs = List::new(alloc);
+        Ok(Program { invs, procs })
+    }
+
+    fn negative(alloc: Global) -> Result<Expr, AllocError> {
+        let e = Boxed::new(alloc, Expr::Const { n: 1 })?;
+        Ok(Expr::Neg { e })
+    }
+
+    #[test]
+    fn straight_programs_are_told_from_others(rt: HostRuntime) -> Result<(), AllocError> {
+        let alloc = rt.alloc();
+        let straight = program(alloc, first(), set(1, Expr::Var { slot: 0 }))?;
+        assert!(rt; is_straight(&straight));
+        let twice = program(alloc, first(), set(0, Expr::Var { slot: 0 }))?;
+        assert!(rt; !is_straight(&twice));
+        let outside = program(alloc, first(), set(1, Expr::Var { slot: 2 }))?;
+        assert!(rt; !is_straight(&outside));
+        let negated = program(alloc, first(), set(1, negative(alloc)?))?;
+        assert!(rt; !is_straight(&negated));
+        Ok(())
+    }
+}
