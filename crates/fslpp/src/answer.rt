@@ -1,7 +1,7 @@
-//! An answer: the text that is written and the status that goes with it. It is composed first, and then
-//! pushed once.
+//! An answer: a text and the status that goes with it. It is composed first, and then pushed once.
 ghost use Rattle.std.specs.Prelude.{◌≡◌, ◌⊎◌};
-ghost use Rattle.fslpp.specs.Answers.{IsCut};
+ghost use Rattle.std.specs.Io.KnownBytes.{Appends};
+ghost use Rattle.fslpp.specs.Answers.{IsCut, IsWritten};
 
 use crate::status::Status;
 use fsl_base::{Sink, Text};
@@ -13,12 +13,12 @@ pub struct Answer {
     pub text: Text,
 }
 
-/// Writes an answer whole and gives its status, or a write fault once a first part of it was written.
+/// Writes an answer and gives its status, or status 5 where only a first part was written.
 pub fn say<K: Sink>(sink: &mut K, answer: &Answer) -> Status
-    ensures written { (result ≡ answer.now.status × Appends (K.written sink.old) (K.written sink.new) answer.now.text) ⊎ (result ≡ Status.WRITE_FAULT × IsCut (K.faults sink.old) (K.faults sink.new) (K.written sink.old) (K.written sink.new) answer.now.text) }
+    ensures { IsWritten answer.now (record { faults_before = K.faults sink.old; faults_after = K.faults sink.new; before = K.written sink.old; after = K.written sink.new }) result }
 {
     match sink.push(answer.text.as_str().as_bytes()) {
         Ok(()) => answer.status,
-        Err(_) => Status::WRITE_FAULT,
+        Err(_) => Status(5),
     }
 }

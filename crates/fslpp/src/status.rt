@@ -1,22 +1,7 @@
 //! How the program ends.
 
-/// The exit status of the program.
+/// The exit status of the program: 0 the program is accepted, 1 an obligation of it fails, 2 the words are no
+/// command, 3 the bytes are no program, 4 the file could not be read, 5 the answer could not be written whole,
+/// 6 there was no memory.
 #[derive(Clone, Copy, Debug, PartialEq, Eq)]
 pub struct Status(pub u8);
-
-impl Status {
-    /// The program is accepted.
-    pub const ACCEPTED: Status = Status(0);
-    /// An obligation of the program fails.
-    pub const FAILED: Status = Status(1);
-    /// The words are no command.
-    pub const BAD_WORDS: Status = Status(2);
-    /// The bytes are no program.
-    pub const REFUSED: Status = Status(3);
-    /// The file could not be read.
-    pub const READ_FAULT: Status = Status(4);
-    /// The answer could not be written whole.
-    pub const WRITE_FAULT: Status = Status(5);
-    /// There was no memory, and nothing was written.
-    pub const NO_MEMORY: Status = Status(6);
-}
