@@ -1,0 +1,3 @@
+pub mod Draining
+pub mod Ending
+pub mod Judging

@@ -1,0 +1,94 @@
+//! The view: entries by ascending locations, found by binary search.
+ghost use Rattle.std.specs.Prelude.{◌≡◌, [], ◌≤◌, length, IfOk, OnOk, OnErr, IsOk};
+ghost use Rattle.fsl_view.specs.Seen.{unseen, joined, raised};
+ghost use Rattle.fsl_view.specs.Kept.{seen, raise_in, join_in};
+
+use crate::entry::Entry;
+use crate::place::{look, missing, raise, raise_each};
+use std::alloc::{AllocError, Global};
+use std::marker::Model;
+
+/// Up to where the messages of each location are seen, by the `to` of the last; 0 where none is.
+#[derive(Drop)]
+pub struct View {
+    entries: Vec<Entry>,
+}
+
+impl Model for View {
+    ghost use Rattle.std.specs.Prelude.{vec_capacity};
+    ghost use Rattle.fsl_view.specs.Kept.{Kept, IsAscending};
+
+    ghost Value = { Kept };
+
+    ghost view = { λ view. record { entries = view.entries.items; room = vec_capacity view.entries } };
+
+    ghost invariant = { λ view. IsAscending view.entries.items };
+}
+
+impl View {
+    /// The view that sees nothing. It takes no memory.
+    pub fn new(alloc: Global) -> View
+        ensures seen { seen result ≡ unseen }
+        ensures entries { result.entries ≡ [] }
+    {
+        View {
+            entries: Vec::new(alloc),
+        }
+    }
+
+    /// Up to where `loc` is seen, 0 where nothing is kept.
+    pub fn at(&self, loc: i64) -> u64
+        ensures { result ≡ seen self.now loc }
+    {
+        look(self.entries.as_slice(), &loc)
+    }
+
+    /// Sees `loc` up to the greater of `to` and what is seen. For want of memory the view stays as it
+    /// was; there is none as long as the entries fit its room.
+    pub fn raise(&mut self, loc: i64, to: u64) -> Result<(), AllocError>
+        ensures seen { OnOk result (seen self.new ≡ raised (seen self.old) loc to) }
+        ensures entries { OnOk result (self.new.entries ≡ raise_in self.old.entries (record { loc = loc; to = to })) }
+        ensures kept { OnErr result (self.new.entries ≡ self.old.entries) }
+        ensures room { self.old.room ≤ self.new.room }
+        ensures succeeds { length (raise_in self.old.entries (record { loc = loc; to = to })) ≤ self.old.room → IsOk result }
+    {
+        raise(&mut self.entries, &Entry { loc, to })
+    }
+
+    /// Sees each location up to the greater of what the two views see. For want of memory the view
+    /// stays as it was; there is none as long as the entries fit its room.
+    pub fn join(&mut self, other: &View) -> Result<(), AllocError>
+        ensures seen { OnOk result (seen self.new ≡ joined (seen self.old) (seen other.now)) }
+        ensures entries { OnOk result (self.new.entries ≡ join_in self.old.entries other.now.entries) }
+        ensures kept { OnErr result (self.new.entries ≡ self.old.entries) }
+        ensures room { self.old.room ≤ self.new.room }
+        ensures succeeds { length (join_in self.old.entries other.now.entries) ≤ self.old.room → IsOk result }
+    {
+        let more = missing(self.entries.as_slice(), other.entries.as_slice());
+        self.entries.reserve(more)?;
+        raise_each(&mut self.entries, other.entries.as_slice());
+        Ok(())
+    }
+
+    /// Makes room for `n` locations.
+    pub fn reserve(&mut self, n: u32) -> Result<(), AllocError>
+        ensures entries { self.new.entries ≡ self.old.entries }
+        ensures reserved { OnOk result (n ≤ self.new.room) }
+        ensures room { self.old.room ≤ self.new.room }
+        ensures kept { OnErr result (self.new ≡ self.old) }
+        ensures succeeds { n ≤ self.old.room → IsOk result }
+    {
+        let more = (n as usize).saturating_sub(self.entries.len());
+        self.entries.reserve(more)
+    }
+
+    /// A view that sees the same.
+    pub fn copy(&self, alloc: Global) -> Result<View, AllocError>
+        ensures seen { IfOk result (λ copy. seen copy ≡ seen self.now) }
+        ensures entries { IfOk result (λ copy. copy.entries ≡ self.now.entries) }
+    {
+        Ok(View {
+            entries: Vec::from_slice(alloc, self.entries.as_slice())?,
+        })
+    }
+}
