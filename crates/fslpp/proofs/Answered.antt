@@ -1,0 +1,20 @@
+-- What is known of an answer once it is composed, and of the words once they are read.
+use Rattle.std.proofs.Common.{◌≡◌, ℕ, List, Option, None, Some, Result, Ok, Err, IfOk, sym, subst}
+use Rattle.fsl_core.specs.declared.program.Program.{Program}
+use Rattle.fsl_types.specs.Reading.{ReadsAs}
+use Rattle.fslpp.specs.declared.answer.Answer.{Answer}
+use Rattle.fslpp.specs.declared.refused.Refused.{Refused}
+use Rattle.fslpp.specs.declared.refused.Refused.TheVariants as refusals
+use Rattle.fslpp.specs.declared.status.Status.{Status}
+use Rattle.fslpp.specs.Answers.{Reading, Writing, HasFile, HasCause, IsChecked, judged, refused, IsSaid, IsAnswered, checked_name, answer, verdict_answer, refusal}
+use Rattle.fslpp.specs.Texts.{usage}
+
+pub judged_is : {E : Type 0} (r : Reading) (bytes : List ℕ) (p : Program) → HasFile r.content r.name bytes → ReadsAs bytes p
+    → (result : Result Answer E) → IfOk result (λ a. a ≡ verdict_answer bytes p) → IfOk result (λ a. IsChecked r a)
+judged_is r bytes p file reads (Ok a) is = judged bytes p file reads is
+judged_is r bytes p file reads (Err e) is = tt
+
+pub refused_is : {E : Type 0} (r : Reading) (fault : Refused) → HasCause r fault
+    → (result : Result Answer E) → IfOk result (λ a. refusal fault ≡ Some a) → IfOk result (λ a. IsChecked r a)
+refused_is r fault cause (Ok a) is = refused fault cause is
+refused_is r fault cause (Err e) is = tt

@@ -1,0 +1,8 @@
+use Rattle.std.proofs.Common.{◌≡◌, sym}
+use Rattle.fslpp.proofs.commands.fslpp.Goals as goal
+
+pub returns-in-Some : goal.returns-in-Some
+returns-in-Some g c = rw (sym c.in-Some.ensures) c.check_cmd.ensures
+
+pub returns-in-None : goal.returns-in-None
+returns-in-None g c = rw (sym c.in-None.ensures) c.usage_cmd.ensures

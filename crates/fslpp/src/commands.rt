@@ -1,0 +1,132 @@
+//! The commands of the program, and the top call that chooses one by the words.
+ghost use Rattle.std.specs.Prelude.{◌≡◌, ◌≤◌, length, map, option_map, IfOk, IsTrue};
+ghost use Rattle.fsl_core.specs.Straight.{is_straight};
+ghost use Rattle.fslpp.specs.Answers.{IsAnswered, IsChecked, IsSaid, answer, checked_name, refusal, verdict_answer, verdict_status};
+ghost use Rattle.fslpp.specs.Texts.{usage};
+
+use crate::answer::{Answer, say};
+use crate::judging::judge;
+use crate::loading::{Loaded, read_program};
+use crate::refused::Refused;
+use crate::status::Status;
+use crate::texts::{READ_FAULT, REFUSED_FORM, REFUSED_SIZE, USAGE, verdict_text};
+use fsl_base::{Gate, Shelf, Sink, Text};
+use fsl_core::Verdict;
+use std::alloc::{AllocError, Global};
+
+/// An answer with a fixed text.
+fn fixed(alloc: Global, status: u8, text: &str) -> Result<Answer, AllocError>
+    ensures { IfOk result (λ a. a ≡ answer status text.now) }
+{
+    Ok(Answer {
+        status: Status(status),
+        text: Text::from_str(alloc, text)?,
+    })
+}
+
+/// The answer where no program was read.
+fn refused(alloc: Global, fault: Refused) -> Result<Answer, AllocError>
+    ensures { IfOk result (λ a. refusal fault ≡ Some a) }
+{
+    match fault {
+        Refused::Read => fixed(alloc, 4, READ_FAULT),
+        Refused::Size => fixed(alloc, 3, REFUSED_SIZE),
+        Refused::Form => fixed(alloc, 3, REFUSED_FORM),
+        Refused::NoMemory => Err(AllocError),
+    }
+}
+
+/// The status of a verdict.
+fn verdict_status(v: &Verdict) -> u8
+    ensures { result ≡ verdict_status v.now }
+{
+    match v {
+        Verdict::Accepted { .. } => 0,
+        Verdict::Failed { .. } => 1,
+    }
+}
+
+/// The answer on a program that was read.
+fn judged<G: Gate>(alloc: Global, loaded: &Loaded, gate: &G) -> Result<Answer, AllocError>
+    requires covered { IsTrue (is_straight loaded.now.program) }
+    requires within { length loaded.now.bytes ≤ 1048576 }
+    ensures { IfOk result (λ a. a ≡ verdict_answer loaded.now.bytes loaded.now.program) }
+{
+    let verdict = judge(alloc, &loaded.program, gate)?;
+    let text = verdict_text(alloc, loaded.bytes.as_slice(), &loaded.program, &verdict)?;
+    Ok(Answer {
+        status: Status(verdict_status(&verdict)),
+        text,
+    })
+}
+
+/// The answer of `check`, before it is written.
+fn checked<H: Shelf, G: Gate>(
+    alloc: Global,
+    name: &str,
+    shelf: &mut H,
+    gate: &G,
+) -> Result<Answer, AllocError>
+    ensures { IfOk result (λ a. IsChecked (record { content = H.content shelf.old; name = name.now; faults_before = H.faults shelf.old; faults_after = H.faults shelf.new; given_before = H.given shelf.old; given_after = H.given shelf.new }) a) }
+{
+    match read_program(alloc, name, shelf) {
+        Ok(loaded) => judged(alloc, &loaded, gate),
+        Err(unread) => refused(alloc, unread.fault),
+    }
+}
+
+/// `check FILE`: reads the program, judges it and writes the verdict. The answer does not depend on the number of
+/// workers, from 1 to 64; so far one does all the work.
+pub fn check_cmd<H: Shelf, K: Sink, G: Gate>(
+    alloc: Global,
+    name: &str,
+    workers: u32,
+    shelf: &mut H,
+    sink: &mut K,
+    gate: &G,
+) -> Status
+    requires some { 1 ≤ workers }
+    requires few { workers ≤ 64 }
+    ensures { IsSaid (IsChecked (record { content = H.content shelf.old; name = name.now; faults_before = H.faults shelf.old; faults_after = H.faults shelf.new; given_before = H.given shelf.old; given_after = H.given shelf.new })) (record { faults_before = K.faults sink.old; faults_after = K.faults sink.new; before = K.written sink.old; after = K.written sink.new }) result }
+{
+    match checked(alloc, name, shelf, gate) {
+        Ok(answer) => say(sink, &answer),
+        Err(_) => Status(6),
+    }
+}
+
+/// The name of the file that the words ask to check.
+fn checked_name<'a>(words: &'a [&'a str]) -> Option<&'a str>
+    ensures { option_map (λ name. name.now) result ≡ checked_name (map (λ word. word.now) words.now) }
+{
+    match words {
+        [_, action, name] if *action == "check" => Some(name),
+        _ => None,
+    }
+}
+
+/// Writes the usage.
+fn usage_cmd<K: Sink>(alloc: Global, sink: &mut K) -> Status
+    ensures { IsSaid (λ a. a ≡ answer 2 usage) (record { faults_before = K.faults sink.old; faults_after = K.faults sink.new; before = K.written sink.old; after = K.written sink.new }) result }
+{
+    match fixed(alloc, 2, USAGE) {
+        Ok(answer) => say(sink, &answer),
+        Err(_) => Status(6),
+    }
+}
+
+/// Runs the program on its words: its name, an action and what the action takes.
+pub fn fslpp<'a, H: Shelf, K: Sink, G: Gate>(
+    alloc: Global,
+    words: &'a [&'a str],
+    shelf: &mut H,
+    sink: &mut K,
+    gate: &G,
+) -> Status
+    ensures { IsSaid (IsAnswered (checked_name (map (λ word. word.now) words.now)) (λ name. record { content = H.content shelf.old; name = name; faults_before = H.faults shelf.old; faults_after = H.faults shelf.new; given_before = H.given shelf.old; given_after = H.given shelf.new })) (record { faults_before = K.faults sink.old; faults_after = K.faults sink.new; before = K.written sink.old; after = K.written sink.new }) result }
+{
+    match checked_name(words) {
+        Some(name) => check_cmd(alloc, name, 1, shelf, sink, gate),
+        None => usage_cmd(alloc, sink),
+    }
+}

@@ -1,0 +1,147 @@
+//! Whole runs over a shelf and a sink in memory: what no clause says is that memory is found, and which bytes
+//! are which program.
+use crate::commands::fslpp;
+use crate::status::Status;
+use fsl_base::{Cut, List, MemShelf, MemSink, Named, OpenGate, Text};
+use std::alloc::{AllocError, Global};
+use std::process::Abort;
+
+// A shelf with one file, `f`, that gives one byte a pull.
+fn shelf(alloc: Global, bytes: &[u8], failing: &[u32]) -> Result<MemShelf, AllocError> {
+    let mut files = List::new(alloc);
+    let name = Text::from_str(alloc, "f")?;
+    let bytes = List::from_slice(alloc, bytes)?;
+    files.push(Named { name, bytes })?;
+    Ok(MemShelf::new(files, 1, List::from_slice(alloc, failing)?))
+}
+
+// The status and what the sink holds after a run; call numbers that fail, and how many bytes the first push takes.
+fn run(
+    alloc: Global,
+    words: &[&str],
+    bytes: &[u8],
+    failing: &[u32],
+    cut: Option<u32>,
+) -> Result<(Status, MemSink), AllocError> {
+    let mut cuts = List::new(alloc);
+    if let Some(bytes) = cut {
+        cuts.push(Cut { call: 1, bytes })?;
+    }
+    let mut shelf = shelf(alloc, bytes, failing)?;
+    let mut sink = MemSink::new(alloc, 128, cuts)?;
+    let status = fslpp(alloc, words, &mut shelf, &mut sink, &OpenGate);
+    Ok((status, sink))
+}
+
+fn expect(rt: &impl Abort, got: Result<(Status, MemSink), AllocError>, status: u8, text: &str) {
+    match got {
+        Ok((got, sink)) => {
+            assert_eq!(rt; got, Status(status));
+            assert_eq!(rt; sink.written(), text.as_bytes());
+        }
+        Err(_) => panic!(rt; "no memory"),
+    }
+}
+
+#[test]
+fn programs_are_judged(rt: HostRuntime) {
+    for (text, status, said) in [
+        ("proc main() { }", 0, "accepted 1\n"),
+        (
+            "proc main() { let d = alloc na; store na(d, 7); let x = load na(d); assert (x == 7); }",
+            0,
+            "accepted 1\n",
+        ),
+        (
+            "proc main() { let d = alloc na; let x = load na(d); }",
+            1,
+            "failed main 1:33 uninit\n",
+        ),
+        (
+            "proc main() { let x = load na(1); }",
+            1,
+            "failed main 1:15 points\n",
+        ),
+        (
+            "proc main() { let größe = alloc na; let x = load na(größe); }",
+            1,
+            "failed main 1:37 uninit\n",
+        ),
+        (
+            "proc main() {\n  let x = 2 + 3 - 1;\n  assert (x == 5);\n}",
+            1,
+            "failed main 3:3 assert\n",
+        ),
+        ("", 3, "refused form\n"),
+        ("proc main() { let d =", 3, "refused form\n"),
+        ("proc main() { print(x); }", 3, "refused form\n"),
+    ] {
+        expect(
+            &rt,
+            run(
+                rt.alloc(),
+                &["fslpp", "check", "f"],
+                text.as_bytes(),
+                &[],
+                None,
+            ),
+            status,
+            said,
+        );
+    }
+}
+
+#[test]
+fn a_file_has_at_most_1048576_bytes(rt: HostRuntime) {
+    for (count, said) in [(1048577, "refused size\n"), (1048576, "refused form\n")] {
+        let spaces = vec![in rt.alloc(); b' '; count].expect(&rt, "no memory");
+        expect(
+            &rt,
+            run(
+                rt.alloc(),
+                &["fslpp", "check", "f"],
+                spaces.as_slice(),
+                &[],
+                None,
+            ),
+            3,
+            said,
+        );
+    }
+}
+
+#[test]
+fn faults_have_their_statuses(rt: HostRuntime) {
+    let program = b"proc main() { }";
+    expect(
+        &rt,
+        run(rt.alloc(), &["fslpp", "check", "f"], program, &[4], None),
+        4,
+        "read fault\n",
+    );
+    expect(
+        &rt,
+        run(rt.alloc(), &["fslpp", "check", "g"], program, &[], None),
+        4,
+        "read fault\n",
+    );
+    expect(
+        &rt,
+        run(rt.alloc(), &["fslpp", "check", "f"], program, &[], Some(5)),
+        5,
+        "accep",
+    );
+    let usage = "usage: fslpp check|run|gauge FILE [--workers N] [--seed N] [--steps N]\n";
+    expect(
+        &rt,
+        run(rt.alloc(), &["fslpp", "check"], program, &[], None),
+        2,
+        usage,
+    );
+    expect(
+        &rt,
+        run(rt.alloc(), &["fslpp", "judge", "f"], program, &[], None),
+        2,
+        usage,
+    );
+}

@@ -1,0 +1,91 @@
+//! The texts of answers.
+ghost use Rattle.std.specs.Prelude.{◌≡◌, ◌≤◌, ◌++◌, codes, length, IfOk};
+ghost use Rattle.std.specs.Fmt.{decimal};
+ghost use Rattle.fslpp.specs.Texts.{failed_text, kind_word, name_of, verdict_text};
+
+use fsl_base::{List, Text};
+use fsl_core::{Kind, Proc, Program, Verdict};
+use fsl_token::{Place, place};
+use std::alloc::{AllocError, Global};
+
+/// What the program is called with.
+pub const USAGE: &str = "usage: fslpp check|run|gauge FILE [--workers N] [--seed N] [--steps N]\n";
+/// The file could not be read.
+pub const READ_FAULT: &str = "read fault\n";
+/// The file has too many bytes.
+pub const REFUSED_SIZE: &str = "refused size\n";
+/// The bytes are not read as a program.
+pub const REFUSED_FORM: &str = "refused form\n";
+
+/// The word for a kind of failure.
+fn kind_word(kind: Kind) -> &'static str
+    ensures { result.now ≡ kind_word kind }
+{
+    match kind {
+        Kind::Uninit => "uninit",
+        Kind::Points => "points",
+        Kind::Share => "share",
+        Kind::Value => "value",
+        Kind::Init => "init",
+        Kind::Rel => "rel",
+        Kind::Acq => "acq",
+        Kind::Rmw => "rmw",
+        Kind::Token => "token",
+        Kind::Assert => "assert",
+        Kind::Cond => "cond",
+        Kind::Pre => "pre",
+        Kind::Post => "post",
+        Kind::Loop => "loop",
+        Kind::Paths => "paths",
+        Kind::Symbols => "symbols",
+        Kind::Chunks => "chunks",
+        Kind::Term => "term",
+    }
+}
+
+/// The name of a procedure, nothing for a number that none has.
+fn name_of(procs: &List<Proc>, number: u32) -> &str
+    ensures { result.now ≡ name_of procs.now number }
+{
+    match procs.get(number as usize) {
+        Some(proc) => proc.name.as_str(),
+        None => "",
+    }
+}
+
+/// `accepted P`
+fn accepted_text(alloc: Global, procs: u32) -> Result<Text, AllocError>
+    ensures { IfOk result (λ text. text ≡ codes "accepted " ++ (decimal procs ++ codes "\n")) }
+{
+    Ok(Text::from_string(format!(in alloc; "accepted {procs}\n")?))
+}
+
+/// `failed NAME LINE:COL KIND`
+fn failed_text(alloc: Global, name: &str, place: Place, kind: Kind) -> Result<Text, AllocError>
+    ensures { IfOk result (λ text. text ≡ failed_text name.now place kind) }
+{
+    let Place { line, col } = place;
+    let kind = kind_word(kind);
+    Ok(Text::from_string(format!(in alloc; "failed {name} {line}:{col} {kind}\n")?))
+}
+
+/// The text of a verdict on the program of these bytes.
+pub fn verdict_text(
+    alloc: Global,
+    bytes: &[u8],
+    p: &Program,
+    v: &Verdict,
+) -> Result<Text, AllocError>
+    requires { length bytes.now ≤ 1048576 }
+    ensures { IfOk result (λ text. text ≡ verdict_text bytes.now p.now v.now) }
+{
+    match v {
+        Verdict::Accepted { procs } => accepted_text(alloc, *procs),
+        Verdict::Failed { proc, span, kind } => failed_text(
+            alloc,
+            name_of(&p.procs, *proc),
+            place(bytes, span.from),
+            *kind,
+        ),
+    }
+}
