@@ -1,0 +1,37 @@
+//! Why tokens are no file.
+ghost use Rattle.std.specs.Prelude.{◌≡◌};
+ghost use Rattle.fsl_parse.specs.declared.fault.Fault.TheVariants.{NoMemory};
+
+use fsl_base::Span;
+use std::alloc::{AllocError, AllocFailed};
+use thiserror::Error;
+
+/// Why tokens are no file.
+#[derive(Clone, Copy, Debug, PartialEq, Eq, Error)]
+pub enum ParseFault {
+    /// The token at `place`, or the end of the file, is none that may stand there.
+    #[error("an unexpected token at byte {}", place.from)]
+    Unexpected { place: Span },
+    /// The token at `place` makes the nesting 65.
+    #[error("nested too deeply at byte {}", place.from)]
+    Deep { place: Span },
+    /// There was no memory for the tree.
+    #[error("out of memory")]
+    NoMemory,
+}
+
+/// Why the reading of a part stopped; the token at fault is the first that is left.
+#[derive(Clone, Copy, Debug, PartialEq, Eq)]
+pub enum Fault {
+    Unexpected,
+    Deep,
+    NoMemory,
+}
+
+impl From<AllocError> for Fault {
+    ghost from_gives = { λ _ fault. fault ≡ NoMemory };
+
+    fn from(_error: AllocError) -> Fault {
+        Fault::NoMemory
+    }
+}
