@@ -1,2 +1,17 @@
+pub mod Groups
 pub mod Lists
+pub mod Parts
+pub mod ReadAssertions
+pub mod ReadDeclarations
+pub mod ReadExpressions
+pub mod ReadGroups
+pub mod ReadStatements
+pub mod Readers
 pub mod Tokens
+pub mod Whole
+pub mod WholeAssertions
+pub mod WholeDeclarations
+pub mod WholeExpressions
+pub mod WholeGroups
+pub mod WholeStatements
+pub mod WholeUses

@@ -3,6 +3,7 @@
 #![tactic(auto)]
 
 ghost use Rattle.std.specs.Prelude.{◌≡◌, ◌≤◌, IfOk};
+ghost use Rattle.fsl_tree.specs.declared.file.File.{File};
 ghost use Rattle.fsl_tree.specs.Spelling.{spelling};
 ghost use Rattle.fsl_tree.specs.Nesting.{nesting};
 
@@ -21,10 +22,12 @@ use fsl_tree::File;
 use std::alloc::Global;
 
 /// The tree that the tokens of a file of `end` bytes spell. `Unexpected` has the place of the token at which the
-/// reading stopped; a place where the tokens end too soon is from `end` to `end`.
+/// reading stopped; a place where the tokens end too soon is from `end` to `end`. No other tree has these tokens.
+#[tactic(auto, using(crate::proofs::WholeDeclarations::one_spelling))]
 pub fn parse(alloc: Global, tokens: &List<Token>, end: u32) -> Result<File, ParseFault>
     ensures found { IfOk result (λ file. spelling file ≡ tokens.now) }
     ensures within { IfOk result (λ file. nesting file ≤ 64) }
+    ensures only { IfOk result (λ file. (other : File) → spelling other ≡ tokens.now → other ≡ file) }
 {
     let mut parser = Parser::new(tokens.as_slice());
     match parser.file(alloc) {
