@@ -28,7 +28,7 @@ abbrev pub read_pattern : ℕ → Reader Pattern
 read_pattern room tokens =
     if is_next kind.Underscore tokens then bind (take kind.Underscore tokens) (λ place left. Found (patterns.Any place) left)
     else (if is_next kind.Question tokens then
-        bind (take kind.Question tokens) (λ mark left. bind (take kind.Name left) (λ name left. Found (patterns.Binder mark name) left))
+    bind (take kind.Question tokens) (λ mark left. bind (take kind.Name left) (λ name left. Found (patterns.Binder mark name) left))
     else bind (read_expression room tokens) (λ value left. Found (patterns.Value value) left))
 
 abbrev pub read_share : ℕ → Reader Share
@@ -112,7 +112,7 @@ read_conjunct atom tokens =
 abbrev pub read_assertion_of : Reader Atom → Reader Assertion
 read_assertion_of atom tokens =
     bind (atom tokens) (λ first left. bind (many_of (is_next kind.Separate) (read_conjunct atom) left)
-        (λ more left. Found (roll-Assertion (record { first = first; more = more })) left))
+    (λ more left. Found (roll-Assertion (record { first = first; more = more })) left))
 
 -- ---- atoms, given how those with one level less room are read
 
@@ -136,7 +136,7 @@ read_choice room inner tokens =
     bind (read_test kind.If room tokens) (λ test left. bind (read_arm room inner left) (λ first left.
     bind (take kind.Else left) (λ otherwise left. bind (read_arm room inner left) (λ second left.
     Found (roll-Atom (Atom-F.Choice test.word test.open test.condition test.close first.open first.assertion first.close otherwise
-        second.open second.assertion second.close)) left))))
+    second.open second.assertion second.close)) left))))
 
 abbrev pub read_raised : ℕ → Reader Atom → Reader Atom
 read_raised room inner tokens =

@@ -33,7 +33,7 @@ read_next_parameter tokens =
 abbrev pub read_parameters : Reader Parameters
 read_parameters tokens =
     bind (read_parameter tokens) (λ first left. bind (many_of (is_next kind.Comma) read_next_parameter left)
-        (λ more left. Found (record { first = first; more = more }) left))
+    (λ more left. Found (record { first = first; more = more }) left))
 
 abbrev pub read_optional_parameters : Reader (Option Parameters)
 read_optional_parameters tokens =
@@ -49,14 +49,29 @@ abbrev pub read_invariant : ℕ → Reader Declaration
 read_invariant room tokens =
     bind (read_header kind.Inv room tokens) (λ h left. bind (take kind.Of left) (λ of left. bind (take kind.Name left) (λ value left.
     bind (read_part room left) (λ first left. bind (many_of (is_next kind.OpenBrace) (read_part room) left) (λ more left.
-    Found (declarations.Invariant (record { word = h.word; name = h.name; «open» = h.open; parameters = h.parameters; close = h.close;
-        of = of; value = value; first = first; more = more })) left)))))
+    Found (declarations.Invariant (record {
+      word = h.word;
+      name = h.name;
+      «open» = h.open;
+      parameters = h.parameters;
+      close = h.close;
+      of = of;
+      value = value;
+      first = first;
+      more = more;
+    })) left)))))
 
 abbrev pub read_predicate : ℕ → Reader Declaration
 read_predicate room tokens =
     bind (read_header kind.Pred room tokens) (λ h left. bind (read_part room left) (λ body left.
-    Found (declarations.Predicate (record { word = h.word; name = h.name; «open» = h.open; parameters = h.parameters; close = h.close;
-        body = body })) left))
+    Found (declarations.Predicate (record {
+      word = h.word;
+      name = h.name;
+      «open» = h.open;
+      parameters = h.parameters;
+      close = h.close;
+      body = body;
+    })) left))
 
 abbrev pub read_contract : ℕ → Reader Contract
 read_contract room tokens =
@@ -66,8 +81,16 @@ read_contract room tokens =
 abbrev pub read_procedure : ℕ → Reader Declaration
 read_procedure room tokens =
     bind (read_header kind.Proc room tokens) (λ h left. bind (read_contract room left) (λ c left. bind (read_block room left) (λ body left.
-    Found (declarations.Procedure (record { word = h.word; name = h.name; «open» = h.open; parameters = h.parameters; close = h.close;
-        requires_clause = c.requires_clause; ensures_clause = c.ensures_clause; body = body })) left)))
+    Found (declarations.Procedure (record {
+      word = h.word;
+      name = h.name;
+      «open» = h.open;
+      parameters = h.parameters;
+      close = h.close;
+      requires_clause = c.requires_clause;
+      ensures_clause = c.ensures_clause;
+      body = body;
+    })) left)))
 
 abbrev pub read_declaration : ℕ → Reader Declaration
 read_declaration room tokens =

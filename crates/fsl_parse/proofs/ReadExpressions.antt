@@ -36,7 +36,7 @@ read_multiplier factor tokens =
 abbrev pub read_term : Reader Factor → Reader Term
 read_term factor tokens =
     bind (factor tokens) (λ first left. bind (many_of (is_next kind.Star) (read_multiplier factor) left)
-        (λ more left. Found (roll-Term (record { first = first; more = more })) left))
+    (λ more left. Found (roll-Term (record { first = first; more = more })) left))
 
 abbrev pub is_sign_next : Tokens → Bool
 is_sign_next tokens = is_next kind.Plus tokens || is_next kind.Minus tokens
@@ -48,7 +48,7 @@ read_addend factor tokens =
 abbrev pub read_expression_of : Reader Factor → Reader Expression
 read_expression_of factor tokens =
     bind (read_term factor tokens) (λ first left. bind (many_of is_sign_next (read_addend factor) left)
-        (λ more left. Found (roll-Expression (record { first = first; more = more })) left))
+    (λ more left. Found (roll-Expression (record { first = first; more = more })) left))
 
 -- ---- factors, given how those with one level less room are read
 
@@ -106,7 +106,7 @@ read_next_argument room tokens =
 abbrev pub read_arguments : ℕ → Reader Arguments
 read_arguments room tokens =
     bind (read_expression room tokens) (λ first left. bind (many_of (is_next kind.Comma) (read_next_argument room) left)
-        (λ more left. Found (record { first = first; more = more }) left))
+    (λ more left. Found (record { first = first; more = more }) left))
 
 abbrev pub read_optional_arguments : ℕ → Reader (Option Arguments)
 read_optional_arguments room tokens =

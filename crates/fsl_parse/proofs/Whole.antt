@@ -64,4 +64,5 @@ many_read more item spelled depth room Ends begins goes_on one (part ∷ parts) 
     record {
       reads = one_more more item spelled part parts (all (map spelled parts) after) after (begins part (all (map spelled parts) after)) this others.reads;
       grows = omega arith;
-      ends = goes_on part (all (map spelled parts) after) }
+      ends = goes_on part (all (map spelled parts) after);
+    }

@@ -97,8 +97,10 @@ AtomsRead room reader = (a : Atom) (after : Tokens) → in_atom a ≤ room → E
 
 abbrev ConjunctLayer : Type 0
 ConjunctLayer = Conjunct-F Atom Assertion Conjunct
+
 abbrev AssertionLayer : Type 0
 AssertionLayer = Assertion-F Atom Assertion Conjunct
+
 abbrev AtomLayer : Type 0
 AtomLayer = Atom-F Atom Assertion Conjunct
 
@@ -125,7 +127,7 @@ conjunct_reads : (room : ℕ) (reader : Reader Atom) → AtomsRead room reader �
     → in_conjunct c ≤ room → EndsExpression after → Reads (read_conjunct reader) (conjunct c) c after
 conjunct_reads room reader each c after =
     subst (λ (u : Conjunct). in_conjunct u ≤ room → EndsExpression after → Reads (read_conjunct reader) (conjunct u) u after) (roll-out-Conjunct c)
-        (conjunct_layer room reader each (out-Conjunct c) after)
+    (conjunct_layer room reader each (out-Conjunct c) after)
 
 conjunct_begins : (c : Conjunct) (after : Tokens) → is_next kind.Separate (conjunct c after) ≡ true
 conjunct_begins c after = subst (λ (u : Conjunct). is_next kind.Separate (conjunct u after) ≡ true) (roll-out-Conjunct c)
@@ -146,7 +148,7 @@ assertion_layer : (room : ℕ) (reader : Reader Atom) → AtomsRead room reader 
 assertion_layer room reader each x after fits ends =
     let deep = assertion_nested x in
     let others = many_read (is_next kind.Separate) (read_conjunct reader) conjunct in_conjunct room EndsExpression
-        conjunct_begins conjunct_ends (conjunct_reads room reader each) x.more after (omega arith) ends.expression ends.no_separate in
+    conjunct_begins conjunct_ends (conjunct_reads room reader each) x.more after (omega arith) ends.expression ends.no_separate in
     let first = each x.first (all (map conjunct x.more) after) (omega arith) others.ends in
     let e = others.reads (length (all (map conjunct x.more) after)) (omega arith) in
     let g = first.grows in let g' = others.grows in
@@ -156,7 +158,7 @@ assertion_of_reads : (room : ℕ) (reader : Reader Atom) → AtomsRead room read
     → in_assertion a ≤ room → EndsAssertion after → Reads (read_assertion_of reader) (assertion a) a after
 assertion_of_reads room reader each a after =
     subst (λ (u : Assertion). in_assertion u ≤ room → EndsAssertion after → Reads (read_assertion_of reader) (assertion u) u after)
-        (roll-out-Assertion a) (assertion_layer room reader each (out-Assertion a) after)
+    (roll-out-Assertion a) (assertion_layer room reader each (out-Assertion a) after)
 
 -- ---- what holds assertions in parentheses or braces
 
@@ -165,7 +167,7 @@ clause_of_reads : (word : TokenKind) (room : ℕ) (inner : Reader Atom) → (0 <
 clause_of_reads word room inner each c after fits =
     let roomy : 0 < room = omega arith in
     let one = assertion_of_reads (room - 1) inner (each roomy) c.assertion (fixed kind.CloseParen c.close ∷ after) (omega arith)
-        (record { expression = record { no_star = refl; no_sign = refl }; no_separate = refl }) in
+    (record { expression = record { no_star = refl; no_sign = refl }; no_separate = refl }) in
     let g = one.grows in
     record { reads = rw (take_reads, open_reads, one.reads) refl; grows = omega arith }
 
@@ -174,7 +176,7 @@ part_of_reads : (room : ℕ) (inner : Reader Atom) → (0 < room → AtomsRead (
 part_of_reads room inner each p after fits =
     let roomy : 0 < room = omega arith in
     let one = assertion_of_reads (room - 1) inner (each roomy) p.assertion (fixed kind.CloseBrace p.close ∷ after) (omega arith)
-        (record { expression = record { no_star = refl; no_sign = refl }; no_separate = refl }) in
+    (record { expression = record { no_star = refl; no_sign = refl }; no_separate = refl }) in
     let g = one.grows in
     record { reads = rw (open_reads, one.reads) refl; grows = omega arith }
 
@@ -227,7 +229,7 @@ atom_layer room inner each (Atom-F.Acq word start location use_comma invariant p
     let roomy : 0 < room = omega arith in
     let second = excluded_set_reads (room - 1) s (fixed kind.CloseParen end ∷ after) (omega arith) in
     let first = held_reads (room - 1) h (fixed kind.Comma part_comma ∷ numeral number_place value ∷ fixed kind.Comma set_comma ∷
-        excluded_set s (fixed kind.CloseParen end ∷ after)) (omega arith) in
+    excluded_set s (fixed kind.CloseParen end ∷ after)) (omega arith) in
     let g = first.grows in let g' = second.grows in
     rw (fold-roll-Atom Spelled Spelled Spelled atom_step assertion_step conjunct_step (Atom-F.Acq word start location use_comma invariant part_comma number_place value set_comma set_start excluded set_end end)) (record { reads = rw (open_reads, first.reads, second.reads) refl; grows = omega arith })
 atom_layer room inner each (Atom-F.Bank (bank_words.Tok place) start bank comma amount end) after fits ends =
@@ -254,10 +256,10 @@ atom_layer room inner each (Atom-F.Predicate called) after fits ends =
 pub atoms_read : (room : ℕ) → AtomsRead room (read_atom room)
 atoms_read zero a after =
     subst (λ (u : Atom). in_atom u ≤ 0 → EndsExpression after → Reads (read_atom 0) (atom u) u after) (roll-out-Atom a)
-        (atom_layer 0 (λ tokens. Wrong tokens) (λ h. absurd (omega arith)) (out-Atom a) after)
+    (atom_layer 0 (λ tokens. Wrong tokens) (λ h. absurd (omega arith)) (out-Atom a) after)
 atoms_read (suc room) a after =
     subst (λ (u : Atom). in_atom u ≤ suc room → EndsExpression after → Reads (read_atom (suc room)) (atom u) u after) (roll-out-Atom a)
-        (atom_layer (suc room) (read_atom room) (λ h. subst (λ (k : ℕ). AtomsRead k (read_atom room)) (omega arith) (atoms_read room)) (out-Atom a) after)
+    (atom_layer (suc room) (read_atom room) (λ h. subst (λ (k : ℕ). AtomsRead k (read_atom room)) (omega arith) (atoms_read room)) (out-Atom a) after)
 
 pub assertion_reads : (room : ℕ) (a : Assertion) (after : Tokens) → in_assertion a ≤ room → EndsAssertion after
     → Reads (read_assertion room) (assertion a) a after

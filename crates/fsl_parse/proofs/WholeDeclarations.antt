@@ -59,7 +59,7 @@ optional_parameters_read : (p : Option Parameters) (after : Tokens) → is_next 
 optional_parameters_read None after closes stops = record { reads = rw (closes) refl; grows = omega arith }
 optional_parameters_read (Some p) after closes stops =
     let others = many_read (is_next kind.Comma) read_next_parameter next_parameter (λ (x : NextParameter). 0) 0 (λ ts. Unit {0})
-        (λ x ts. refl) (λ x ts. tt) (λ x ts deep ends. next_parameter_reads x ts) p.more after (none_deep p.more) tt stops in
+    (λ x ts. refl) (λ x ts. tt) (λ x ts deep ends. next_parameter_reads x ts) p.more after (none_deep p.more) tt stops in
     let first = parameter_reads p.first (all (map next_parameter p.more) after) in
     let e = others.reads (length (all (map next_parameter p.more) after)) (omega arith) in
     let g = first.grows in let g' = others.grows in
@@ -77,7 +77,7 @@ invariant_reads : (room : ℕ) (i : Invariant) (after : Tokens) → max 1 (max (
 invariant_reads room i after fits stops =
     let h : Header = record { word = i.word; name = i.name; «open» = i.open; parameters = i.parameters; close = i.close } in
     let others = many_read (is_next kind.OpenBrace) (read_part room) part in_part room (λ ts. Unit {0})
-        (λ p ts. refl) (λ p ts. tt) (λ p ts deep ends. part_reads room p ts deep) i.more after (omega arith) tt stops in
+    (λ p ts. refl) (λ p ts. tt) (λ p ts deep ends. part_reads room p ts deep) i.more after (omega arith) tt stops in
     let first = part_reads room i.first (all (map part i.more) after) (omega arith) in
     let top = header_reads kind.Inv room h (fixed kind.Of i.of ∷ fixed kind.Name i.value ∷ part i.first (all (map part i.more) after)) (omega arith) in
     let e = others.reads (length (all (map part i.more) after)) (omega arith) in
@@ -105,7 +105,7 @@ procedure_reads room p after fits =
     let body = block_reads room p.body after (omega arith) in
     let second = optional_clause_reads kind.Ensures room p.ensures_clause (block p.body after) (omega arith) (block_no_ensures p.body after) in
     let first = optional_clause_reads kind.Requires room p.requires_clause (optional_clause kind.Ensures p.ensures_clause (block p.body after)) (omega arith)
-        (no_requires p.ensures_clause p.body after) in
+    (no_requires p.ensures_clause p.body after) in
     let top = header_reads kind.Proc room h (optional_clause kind.Requires p.requires_clause (optional_clause kind.Ensures p.ensures_clause (block p.body after))) (omega arith) in
     let g = body.grows in let g' = second.grows in let g'' = first.grows in let g3 = top.grows in
     record { reads = rw (top.reads, first.reads, second.reads, body.reads) refl; grows = omega arith }
@@ -135,7 +135,7 @@ declaration_no_part (declarations.Procedure p) after = refl
 pub file_reads : (room : ℕ) (f : File) → nesting f ≤ room → read_file room (spelling f) ≡ Found f []
 file_reads room f fits =
     let every = many_read is_more (read_declaration room) declaration in_declaration room (λ ts. is_next kind.OpenBrace ts ≡ false)
-        declaration_more declaration_no_part (declaration_reads room) f.declarations [] fits refl refl in
+    declaration_more declaration_no_part (declaration_reads room) f.declarations [] fits refl refl in
     let e = every.reads (length (spelling f)) (omega arith) in
     rw (e) refl
 

@@ -25,12 +25,16 @@ use Rattle.fsl_parse.proofs.Whole.{Reads, ManyRead, many_read, take_reads, open_
 
 abbrev FactorLayer : Type 0
 FactorLayer = Factor-F Factor Addend Expression Multiplier Term
+
 abbrev AddendLayer : Type 0
 AddendLayer = Addend-F Factor Addend Expression Multiplier Term
+
 abbrev MultiplierLayer : Type 0
 MultiplierLayer = Multiplier-F Factor Addend Expression Multiplier Term
+
 abbrev TermLayer : Type 0
 TermLayer = Term-F Factor Addend Expression Multiplier Term
+
 abbrev ExpressionLayer : Type 0
 ExpressionLayer = Expression-F Factor Addend Expression Multiplier Term
 
@@ -93,7 +97,7 @@ multiplier_reads : (room : ℕ) (reader : Reader Factor) → FactorsRead room re
     → Reads (read_multiplier reader) (multiplier m) m after
 multiplier_reads room reader each m after =
     subst (λ (u : Multiplier). in_multiplier u ≤ room → Reads (read_multiplier reader) (multiplier u) u after) (roll-out-Multiplier m)
-        (multiplier_layer room reader each (out-Multiplier m) after)
+    (multiplier_layer room reader each (out-Multiplier m) after)
 
 multiplier_begins : (m : Multiplier) (after : Tokens) → is_next kind.Star (multiplier m after) ≡ true
 multiplier_begins m after = subst (λ (u : Multiplier). is_next kind.Star (multiplier u after) ≡ true) (roll-out-Multiplier m)
@@ -104,7 +108,7 @@ multipliers_read : (room : ℕ) (reader : Reader Factor) → FactorsRead room re
     → ManyRead (is_next kind.Star) (read_multiplier reader) multiplier (λ after. Unit {0}) ms after
 multipliers_read room reader each ms after fits ends =
     many_read (is_next kind.Star) (read_multiplier reader) multiplier in_multiplier room (λ after. Unit {0})
-        multiplier_begins (λ m after. tt) (λ m after fits ends. multiplier_reads room reader each m after fits) ms after fits tt ends
+    multiplier_begins (λ m after. tt) (λ m after fits ends. multiplier_reads room reader each m after fits) ms after fits tt ends
 
 term_layer : (room : ℕ) (reader : Reader Factor) → FactorsRead room reader → (x : TermLayer) (after : Tokens)
     → in_term (roll-Term x) ≤ room → NoStar after → Reads (read_term reader) (term (roll-Term x)) (roll-Term x) after
@@ -120,7 +124,7 @@ term_reads : (room : ℕ) (reader : Reader Factor) → FactorsRead room reader �
     → in_term t ≤ room → NoStar after → Reads (read_term reader) (term t) t after
 term_reads room reader each t after =
     subst (λ (u : Term). in_term u ≤ room → NoStar after → Reads (read_term reader) (term u) u after) (roll-out-Term t)
-        (term_layer room reader each (out-Term t) after)
+    (term_layer room reader each (out-Term t) after)
 
 addend_layer : (room : ℕ) (reader : Reader Factor) → FactorsRead room reader → (x : AddendLayer) (after : Tokens)
     → in_addend (roll-Addend x) ≤ room → NoStar after → Reads (read_addend reader) (addend (roll-Addend x)) (roll-Addend x) after
@@ -133,7 +137,7 @@ addend_reads : (room : ℕ) (reader : Reader Factor) → FactorsRead room reader
     → in_addend a ≤ room → NoStar after → Reads (read_addend reader) (addend a) a after
 addend_reads room reader each a after =
     subst (λ (u : Addend). in_addend u ≤ room → NoStar after → Reads (read_addend reader) (addend u) u after) (roll-out-Addend a)
-        (addend_layer room reader each (out-Addend a) after)
+    (addend_layer room reader each (out-Addend a) after)
 
 addend_begins : (a : Addend) (after : Tokens) → is_sign_next (addend a after) ≡ true
 addend_begins a after = subst (λ (u : Addend). is_sign_next (addend u after) ≡ true) (roll-out-Addend a)
@@ -153,7 +157,7 @@ addends_read : (room : ℕ) (reader : Reader Factor) → FactorsRead room reader
     → ManyRead is_sign_next (read_addend reader) addend NoStar xs after
 addends_read room reader each xs after fits ends =
     many_read is_sign_next (read_addend reader) addend in_addend room NoStar addend_begins addend_no_star
-        (addend_reads room reader each) xs after fits ends.no_star ends.no_sign
+    (addend_reads room reader each) xs after fits ends.no_star ends.no_sign
 
 expression_layer : (room : ℕ) (reader : Reader Factor) → FactorsRead room reader → (x : ExpressionLayer) (after : Tokens)
     → in_expression (roll-Expression x) ≤ room → EndsExpression after
@@ -170,7 +174,7 @@ pub expression_of_reads : (room : ℕ) (reader : Reader Factor) → FactorsRead 
     → in_expression e ≤ room → EndsExpression after → Reads (read_expression_of reader) (expression e) e after
 expression_of_reads room reader each e after =
     subst (λ (u : Expression). in_expression u ≤ room → EndsExpression after → Reads (read_expression_of reader) (expression u) u after)
-        (roll-out-Expression e) (expression_layer room reader each (out-Expression e) after)
+    (roll-out-Expression e) (expression_layer room reader each (out-Expression e) after)
 
 -- ---- factors
 
@@ -220,16 +224,18 @@ factor_layer (suc n) reader inner is each (Factor-F.Group start e end) after fit
     let one = expression_of_reads n inner (each n refl) e (fixed kind.CloseParen end ∷ after) (omega arith) (record { no_star = refl; no_sign = refl }) in
     let g = one.grows in
     rw (group_spelled start e end) (record {
-      reads = is (fixed kind.OpenParen start ∷ expression e (fixed kind.CloseParen end ∷ after)) ∙ rw (one.reads) refl; grows = omega arith })
+      reads = is (fixed kind.OpenParen start ∷ expression e (fixed kind.CloseParen end ∷ after)) ∙ rw (one.reads) refl;
+      grows = omega arith;
+    })
 
 pub factors_read : (room : ℕ) → FactorsRead room (read_factor room)
 factors_read zero f after =
     subst (λ (u : Factor). in_factor u ≤ 0 → Reads (read_factor 0) (factor u) u after) (roll-out-Factor f)
-        (factor_layer 0 (read_factor 0) (λ tokens. Wrong tokens) (λ tokens. refl) (λ n e. cc) (out-Factor f) after)
+    (factor_layer 0 (read_factor 0) (λ tokens. Wrong tokens) (λ tokens. refl) (λ n e. cc) (out-Factor f) after)
 factors_read (suc room) f after =
     subst (λ (u : Factor). in_factor u ≤ suc room → Reads (read_factor (suc room)) (factor u) u after) (roll-out-Factor f)
-        (factor_layer (suc room) (read_factor (suc room)) (read_factor room) (λ tokens. refl)
-            (λ n e. subst (λ (k : ℕ). FactorsRead k (read_factor room)) (omega arith) (factors_read room)) (out-Factor f) after)
+    (factor_layer (suc room) (read_factor (suc room)) (read_factor room) (λ tokens. refl)
+    (λ n e. subst (λ (k : ℕ). FactorsRead k (read_factor room)) (omega arith) (factors_read room)) (out-Factor f) after)
 
 pub expression_reads : (room : ℕ) (e : Expression) (after : Tokens) → in_expression e ≤ room → EndsExpression after
     → Reads (read_expression room) (expression e) e after
@@ -318,9 +324,9 @@ factor_no_use f after = subst (λ (u : Factor). is_next kind.OpenParen after ≡
 term_no_use : (t : Term) (after : Tokens) → is_next kind.OpenParen after ≡ false → is_use_next (term t after) ≡ false
 term_no_use t after h = subst (λ (u : Term). is_use_next (term u after) ≡ false) (roll-out-Term t)
     (rw (term_spelled (out-Term t)) (factor_no_use (out-Term t).first (all (map multiplier (out-Term t).more) after)
-        (no_paren multiplier multiplier_no_paren (out-Term t).more after h)))
+    (no_paren multiplier multiplier_no_paren (out-Term t).more after h)))
 
 pub expression_no_use : (e : Expression) (after : Tokens) → is_next kind.OpenParen after ≡ false → is_use_next (expression e after) ≡ false
 expression_no_use e after h = subst (λ (u : Expression). is_use_next (expression u after) ≡ false) (roll-out-Expression e)
     (rw (expression_spelled (out-Expression e)) (term_no_use (out-Expression e).first (all (map addend (out-Expression e).more) after)
-        (no_paren addend addend_no_paren (out-Expression e).more after h)))
+    (no_paren addend addend_no_paren (out-Expression e).more after h)))

@@ -38,7 +38,7 @@ pub excluded_set_reads : (room : ℕ) (s : ExcludedSet) (after : Tokens) → in_
     → Reads (read_excluded_set room) (excluded_set s) s after
 excluded_set_reads room s after fits =
     let inner = optional_arguments_read (room - 1) s.excluded (fixed kind.CloseBrace s.close ∷ after) (omega arith)
-        (record { no_star = refl; no_sign = refl }) refl refl in
+    (record { no_star = refl; no_sign = refl }) refl refl in
     let g = inner.grows in let roomy : 0 < room = omega arith in
     record { reads = rw (open_reads, inner.reads) refl; grows = omega arith }
 

@@ -102,7 +102,7 @@ optional_with_reads room None after fits stops = record { reads = rw (stops) ref
 optional_with_reads room (Some w) after fits stops =
     let roomy : 0 < room = omega arith in
     let lines = many_read is_step_next (read_step_line (room - 1)) step_line in_step_line (room - 1) (λ ts. Unit {0})
-        step_line_begins (λ l ts. tt) (λ l ts deep ends. step_line_reads (room - 1) l ts deep) w.steps (fixed kind.CloseBrace w.close ∷ after) (omega arith) tt refl in
+    step_line_begins (λ l ts. tt) (λ l ts deep ends. step_line_reads (room - 1) l ts deep) w.steps (fixed kind.CloseBrace w.close ∷ after) (omega arith) tt refl in
     let e = lines.reads (length (all (map step_line w.steps) (fixed kind.CloseBrace w.close ∷ after))) (omega arith) in
     let g = lines.grows in
     record { reads = rw (open_reads, e) refl; grows = omega arith }
@@ -124,7 +124,8 @@ right_side_reads room (right_sides.Value value) after fits ends stops =
     let one = expression_reads room value after fits ends in let g = one.grows in
     record {
       reads = rw (not_start kind.Call refl value after, not_start kind.Alloc refl value after, not_start kind.Load refl value after, not_start kind.Cas refl value after, not_start kind.FetchAdd refl value after, not_start kind.Exchange refl value after, one.reads) refl;
-      grows = omega arith }
+      grows = omega arith;
+    }
 right_side_reads room (right_sides.Call word callee) after fits ends stops =
     let one = usage_reads room callee after fits in let g = one.grows in
     record { reads = rw (one.reads) refl; grows = omega arith }
@@ -195,8 +196,10 @@ StatementsRead room reader = (s : Statement) (after : Tokens) → in_statement s
 
 abbrev StatementLayer : Type 0
 StatementLayer = Statement-F Statement Block Otherwise
+
 abbrev BlockLayer : Type 0
 BlockLayer = Block-F Statement Block Otherwise
+
 abbrev OtherwiseLayer : Type 0
 OtherwiseLayer = Otherwise-F Statement Block Otherwise
 
@@ -252,8 +255,8 @@ statement_layer_begins (Statement-F.Bank word name semicolon) after =
     rw (fold-roll-Statement Spelled Spelled Spelled statement_step block_step otherwise_step (Statement-F.Bank word name semicolon)) (record { goes = refl; no_else = refl })
 statement_layer_begins (Statement-F.Step timed semicolon) after =
     rw (fold-roll-Statement Spelled Spelled Spelled statement_step block_step otherwise_step (Statement-F.Step timed semicolon))
-        (step_begins timed.word (fixed kind.OpenParen timed.open ∷ fixed kind.Name timed.bank ∷ fixed kind.Comma timed.comma ∷
-            expression timed.amount (fixed kind.CloseParen timed.close ∷ fixed kind.Semicolon semicolon ∷ after)))
+    (step_begins timed.word (fixed kind.OpenParen timed.open ∷ fixed kind.Name timed.bank ∷ fixed kind.Comma timed.comma ∷
+    expression timed.amount (fixed kind.CloseParen timed.close ∷ fixed kind.Semicolon semicolon ∷ after)))
 
 statement_begins : (s : Statement) (after : Tokens) → BeginsStatement (statement s after)
 statement_begins s after = subst (λ (u : Statement). BeginsStatement (statement u after)) (roll-out-Statement s) (statement_layer_begins (out-Statement s) after)
@@ -270,7 +273,7 @@ block_layer room inner each x after fits =
     let deep = block_nested x in
     let roomy : 0 < room = omega arith in
     let lines = many_read goes_on inner statement in_statement (room - 1) (λ ts. is_next kind.Else ts ≡ false)
-        statement_goes statement_no_else (each roomy) x.statements (fixed kind.CloseBrace x.close ∷ after) (omega arith) refl refl in
+    statement_goes statement_no_else (each roomy) x.statements (fixed kind.CloseBrace x.close ∷ after) (omega arith) refl refl in
     let e = lines.reads (length (all (map statement x.statements) (fixed kind.CloseBrace x.close ∷ after))) (omega arith) in
     let g = lines.grows in
     rw (block_spelled x) (record { reads = rw (open_reads, e) refl; grows = omega arith })
@@ -300,7 +303,7 @@ otherwise_reads : (room : ℕ) (inner : Reader Statement) → (0 < room → Stat
     → in_otherwise o ≤ room → Reads (read_otherwise room inner) (otherwise o) o after
 otherwise_reads room inner each o after =
     subst (λ (u : Otherwise). in_otherwise u ≤ room → Reads (read_otherwise room inner) (otherwise u) u after) (roll-out-Otherwise o)
-        (otherwise_layer room inner each (out-Otherwise o) after)
+    (otherwise_layer room inner each (out-Otherwise o) after)
 
 otherwise_begins : (o : Otherwise) (after : Tokens) → is_next kind.Else (otherwise o after) ≡ true
 otherwise_begins o after = subst (λ (u : Otherwise). is_next kind.Else (otherwise u after) ≡ true) (roll-out-Otherwise o) (rw (otherwise_spelled (out-Otherwise o)) refl)
@@ -342,7 +345,7 @@ statement_layer room inner each (Statement-F.Parallel word start calls end) afte
     let deep : in_statement (roll-Statement (Statement-F.Parallel word start calls end)) ≡ 1 + greatest (map in_parallel_call calls) = fold-roll-Statement ℕ ℕ ℕ statement_depth block_depth otherwise_depth (Statement-F.Parallel word start calls end) in
     let roomy : 0 < room = omega arith in
     let lines = many_read (is_next kind.Name) (read_parallel_call (room - 1)) parallel_call in_parallel_call (room - 1) (λ ts. Unit {0})
-        (λ c ts. refl) (λ c ts. tt) (λ c ts deep ends. parallel_call_reads (room - 1) c ts deep) calls (fixed kind.CloseBrace end ∷ after) (omega arith) tt refl in
+    (λ c ts. refl) (λ c ts. tt) (λ c ts deep ends. parallel_call_reads (room - 1) c ts deep) calls (fixed kind.CloseBrace end ∷ after) (omega arith) tt refl in
     let e = lines.reads (length (all (map parallel_call calls) (fixed kind.CloseBrace end ∷ after))) (omega arith) in let g = lines.grows in
     rw (fold-roll-Statement Spelled Spelled Spelled statement_step block_step otherwise_step (Statement-F.Parallel word start calls end)) (record { reads = rw (open_reads, e) refl; grows = omega arith })
 statement_layer room inner each (Statement-F.Fence word what semicolon) after fits stops =
@@ -398,15 +401,15 @@ statement_layer room inner each (Statement-F.Step timed semicolon) after fits st
     let deep : in_statement (roll-Statement (Statement-F.Step timed semicolon)) ≡ in_step timed = fold-roll-Statement ℕ ℕ ℕ statement_depth block_depth otherwise_depth (Statement-F.Step timed semicolon) in
     let one = step_reads room timed (fixed kind.Semicolon semicolon ∷ after) (omega arith) in let g = one.grows in
     rw (fold-roll-Statement Spelled Spelled Spelled statement_step block_step otherwise_step (Statement-F.Step timed semicolon))
-        (record { reads = step_dispatched room inner timed (fixed kind.Semicolon semicolon ∷ after) ∙ rw (one.reads) refl; grows = omega arith })
+    (record { reads = step_dispatched room inner timed (fixed kind.Semicolon semicolon ∷ after) ∙ rw (one.reads) refl; grows = omega arith })
 
 pub statements_read : (room : ℕ) → StatementsRead room (read_statement room)
 statements_read zero s after =
     subst (λ (u : Statement). in_statement u ≤ 0 → is_next kind.Else after ≡ false → Reads (read_statement 0) (statement u) u after) (roll-out-Statement s)
-        (statement_layer 0 (λ tokens. Wrong tokens) (λ h. absurd (omega arith)) (out-Statement s) after)
+    (statement_layer 0 (λ tokens. Wrong tokens) (λ h. absurd (omega arith)) (out-Statement s) after)
 statements_read (suc room) s after =
     subst (λ (u : Statement). in_statement u ≤ suc room → is_next kind.Else after ≡ false → Reads (read_statement (suc room)) (statement u) u after) (roll-out-Statement s)
-        (statement_layer (suc room) (read_statement room) (λ h. subst (λ (k : ℕ). StatementsRead k (read_statement room)) (omega arith) (statements_read room)) (out-Statement s) after)
+    (statement_layer (suc room) (read_statement room) (λ h. subst (λ (k : ℕ). StatementsRead k (read_statement room)) (omega arith) (statements_read room)) (out-Statement s) after)
 
 pub block_reads : (room : ℕ) (b : Block) (after : Tokens) → in_block b ≤ room → Reads (read_block room) (block b) b after
 block_reads room = block_of_reads room (read_statement (room - 1)) (λ h. statements_read (room - 1))

@@ -65,10 +65,15 @@ condition_reads room (conditions.Compared left comparison right) after fits ends
     let first = expression_reads room left (comparison_token comparison ∷ expression right after) (omega arith) (comparison_ends comparison (expression right after)) in
     let g = first.grows in let g' = second.grows in
     record {
-      reads = rw (not_start kind.True refl left (comparison_token comparison ∷ expression right after),
-          not_start kind.False refl left (comparison_token comparison ∷ expression right after),
-          first.reads, comparison_reads comparison (expression right after), second.reads) refl;
-      grows = omega arith }
+      reads = rw (
+        not_start kind.True refl left (comparison_token comparison ∷ expression right after),
+        not_start kind.False refl left (comparison_token comparison ∷ expression right after),
+        first.reads,
+        comparison_reads comparison (expression right after),
+        second.reads,
+      ) refl;
+      grows = omega arith;
+    }
 
 -- ---- arguments
 
@@ -82,7 +87,7 @@ pub arguments_read : (room : ℕ) (a : Arguments) (after : Tokens) → in_argume
     → Reads (read_arguments room) (arguments a) a after
 arguments_read room a after fits ends stops =
     let others = many_read (is_next kind.Comma) (read_next_argument room) next_argument in_next_argument room EndsExpression
-        (λ b after. refl) (λ b after. record { no_star = refl; no_sign = refl }) (next_argument_reads room) a.more after (omega arith) ends stops in
+    (λ b after. refl) (λ b after. record { no_star = refl; no_sign = refl }) (next_argument_reads room) a.more after (omega arith) ends stops in
     let first = expression_reads room a.first (all (map next_argument a.more) after) (omega arith) others.ends in
     let e = others.reads (length (all (map next_argument a.more) after)) (omega arith) in
     let g = first.grows in let g' = others.grows in
@@ -100,18 +105,25 @@ optional_arguments_read room None after fits ends stops closes = record { reads 
 optional_arguments_read room (Some a) after fits ends stops closes =
     let one = arguments_read room a after fits ends stops in let g = one.grows in
     record {
-      reads = rw (not_start kind.CloseParen refl a.first (all (map next_argument a.more) after),
-          not_start kind.CloseBrace refl a.first (all (map next_argument a.more) after), one.reads) refl;
-      grows = omega arith }
+      reads = rw (
+        not_start kind.CloseParen refl a.first (all (map next_argument a.more) after),
+        not_start kind.CloseBrace refl a.first (all (map next_argument a.more) after),
+        one.reads,
+      ) refl;
+      grows = omega arith;
+    }
 
 -- ---- uses
 
 pub usage_reads : (room : ℕ) (u : Use) (after : Tokens) → in_use u ≤ room → Reads (read_usage room) (usage u) u after
 usage_reads room u after fits =
     let given = optional_arguments_read (room - 1) u.arguments (fixed kind.CloseParen u.close ∷ after) (omega arith)
-        (record { no_star = refl; no_sign = refl }) refl refl in
+    (record { no_star = refl; no_sign = refl }) refl refl in
     let g = given.grows in
     record {
-      reads = rw (open_reads kind.OpenParen room u.open (optional_arguments u.arguments (fixed kind.CloseParen u.close ∷ after)) (omega arith),
-          given.reads) refl;
-      grows = omega arith }
+      reads = rw (
+        open_reads kind.OpenParen room u.open (optional_arguments u.arguments (fixed kind.CloseParen u.close ∷ after)) (omega arith),
+        given.reads,
+      ) refl;
+      grows = omega arith;
+    }
