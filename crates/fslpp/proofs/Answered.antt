@@ -6,13 +6,13 @@ use Rattle.fslpp.specs.declared.answer.Answer.{Answer}
 use Rattle.fslpp.specs.declared.refused.Refused.{Refused}
 use Rattle.fslpp.specs.declared.refused.Refused.TheVariants as refusals
 use Rattle.fslpp.specs.declared.status.Status.{Status}
-use Rattle.fslpp.specs.Answers.{Reading, Writing, HasFile, HasCause, IsChecked, judged, refused, IsSaid, IsAnswered, checked_name, answer, verdict_answer, refusal}
+use Rattle.fslpp.specs.Answers.{Reading, IsOnly, Writing, HasFile, HasCause, IsChecked, judged, refused, IsSaid, IsAnswered, checked_name, answer, verdict_answer, refusal}
 use Rattle.fslpp.specs.Texts.{usage}
 
-pub judged_is : {E : Type 0} (r : Reading) (bytes : List ℕ) (p : Program) → HasFile r.content r.name bytes → ReadsAs bytes p
+pub judged_is : {E : Type 0} (r : Reading) (bytes : List ℕ) (p : Program) → HasFile r.content r.name bytes → ReadsAs bytes p → IsOnly bytes p
     → (result : Result Answer E) → IfOk result (λ a. a ≡ verdict_answer bytes p) → IfOk result (λ a. IsChecked r a)
-judged_is r bytes p file reads (Ok a) is = judged bytes p file reads is
-judged_is r bytes p file reads (Err e) is = tt
+judged_is r bytes p file reads only (Ok a) is = judged bytes p file reads only is
+judged_is r bytes p file reads only (Err e) is = tt
 
 pub refused_is : {E : Type 0} (r : Reading) (fault : Refused) → HasCause r fault
     → (result : Result Answer E) → IfOk result (λ a. refusal fault ≡ Some a) → IfOk result (λ a. IsChecked r a)

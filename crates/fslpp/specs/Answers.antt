@@ -41,6 +41,10 @@ abbrev pub IsHeld : Content → List ℕ → List ℕ → Type 0
 IsHeld None name bytes = Unit {0}
 IsHeld (Some held) name bytes = held name ≡ Some bytes
 
+-- the bytes are no other program
+abbrev pub IsOnly : List ℕ → Program → Type 0
+IsOnly bytes p = (q : Program) → ReadsAs bytes q → q ≡ p
+
 -- the file has these bytes, at most 1048576
 pub record HasFile (content : Content) (name : List ℕ) (bytes : List ℕ) : Type 0 where
   pub held : IsHeld content name bytes
@@ -77,9 +81,9 @@ HasCause r refusals.Size = HasTooMany r.content r.name r.given_before r.given_af
 HasCause r refusals.Form = (bytes : List ℕ) × HasFile r.content r.name bytes
 HasCause r refusals.NoMemory = Unit {0}
 
--- an answer of `check`: the verdict of the rules on the program that the file is, or a refusal with its cause
+-- an answer of `check`: the verdict of the rules on the one program that the file is, or a refusal with its cause
 pub data IsChecked (r : Reading) (a : Answer) : Type 0 where
-  judged : (bytes : List ℕ) (p : Program) → HasFile r.content r.name bytes → ReadsAs bytes p → a ≡ verdict_answer bytes p → IsChecked r a
+  judged : (bytes : List ℕ) (p : Program) → HasFile r.content r.name bytes → ReadsAs bytes p → IsOnly bytes p → a ≡ verdict_answer bytes p → IsChecked r a
   refused : (fault : Refused) → HasCause r fault → refusal fault ≡ Some a → IsChecked r a
 
 -- a push failed: the sink's count of faults rose, and a first part of the text was appended

@@ -2,10 +2,11 @@
 ghost use Rattle.std.specs.Prelude.{◌≡◌, ◌≤◌, [], IfErr, IfOk, IsTrue, Ok, length};
 ghost use Rattle.fsl_core.specs.Straight.{is_straight};
 ghost use Rattle.fsl_token.specs.Tokens.{lexed};
+ghost use Rattle.fsl_tree.specs.declared.file.File.{File};
 ghost use Rattle.fsl_tree.specs.Nesting.{nesting};
 ghost use Rattle.fsl_tree.specs.Spelling.{spelling};
 ghost use Rattle.fsl_types.specs.Reading.{ReadsAs};
-ghost use Rattle.fslpp.specs.Answers.{HasCause, HasFile, IsUnread};
+ghost use Rattle.fslpp.specs.Answers.{HasCause, HasFile, IsOnly, IsUnread};
 
 use crate::refused::Refused;
 use fsl_base::{List, ReadAll, Shelf, read_all};
@@ -65,10 +66,12 @@ fn tokens_of(alloc: Global, bytes: &[u8]) -> Result<List<Token>, Refused>
 }
 
 /// The tree of a file.
+#[tactic(auto, using(crate::proofs::Only::only_tree))]
 fn tree_of(alloc: Global, bytes: &[u8]) -> Result<File, Refused>
     requires { length bytes.now ≤ 1048576 }
     ensures spelled { IfOk result (λ file. lexed bytes.now ≡ Ok (spelling file)) }
     ensures nested { IfOk result (λ file. nesting file ≤ 64) }
+    ensures only { IfOk result (λ file. (other : File) → lexed bytes.now ≡ Ok (spelling other) → other ≡ file) }
     ensures fault { IfErr result IsUnread }
 {
     let tokens = match tokens_of(alloc, bytes) {
@@ -83,9 +86,11 @@ fn tree_of(alloc: Global, bytes: &[u8]) -> Result<File, Refused>
 }
 
 /// The program that the bytes are, where the rules cover it.
+#[tactic(auto, using(crate::proofs::Only::only_program))]
 fn program_of(alloc: Global, bytes: &[u8]) -> Result<Program, Refused>
     requires { length bytes.now ≤ 1048576 }
     ensures reads { IfOk result (λ p. ReadsAs bytes.now p) }
+    ensures only { IfOk result (λ p. IsOnly bytes.now p) }
     ensures covered { IfOk result (λ p. IsTrue (is_straight p)) }
     ensures fault { IfErr result IsUnread }
 {
@@ -127,6 +132,7 @@ fn without_place(alloc: Global, fault: Refused) -> Unread
 /// Reads the program of a file.
 pub fn read_program<H: Shelf>(alloc: Global, name: &str, shelf: &mut H) -> Result<Loaded, Unread>
     ensures reads { IfOk result (λ loaded. ReadsAs loaded.bytes loaded.program) }
+    ensures only { IfOk result (λ loaded. IsOnly loaded.bytes loaded.program) }
     ensures file { IfOk result (λ loaded. HasFile (H.content shelf.old) name.now loaded.bytes) }
     ensures covered { IfOk result (λ loaded. IsTrue (is_straight loaded.program)) }
     ensures cause { IfErr result (λ unread. HasCause (record { content = H.content shelf.old; name = name.now; faults_before = H.faults shelf.old; faults_after = H.faults shelf.new; given_before = H.given shelf.old; given_after = H.given shelf.new }) unread.fault) }
