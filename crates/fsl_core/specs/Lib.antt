@@ -1,8 +1,10 @@
 pub mod Conditions
 pub mod Facts
+pub mod Moves
 pub mod Paths
 pub mod Rules
 pub mod States
 pub mod Straight
 pub mod Terms
+pub mod Values
 pub mod Verdicts
