@@ -2,6 +2,7 @@
 -- -2^63 to 2^63-1, and `None` where a constant or a result leaves them.
 use Rattle.std.specs.Prelude.{ℕ, ◌^◌, nat_lt, Bool, true, false, not, ◌&&◌, List, [], ◌∷◌, slice_get, ℤ, pos, negsuc, ◌+ℤ◌, ◌-ℤ◌, ◌*ℤ◌, neg_ℤ, Option, Some, None, if◌then◌else◌, int_lt, int_le}
 use Rattle.std.specs.Ordering.{int_eq}
+use Rattle.std.specs.List.{list_all}
 use Rattle.fsl_core.specs.declared.expr.Expr.{Expr}
 use Rattle.fsl_core.specs.declared.expr.Expr.TheOpen.{Expr-F, Part-F}
 use Rattle.fsl_core.specs.declared.expr.Expr.TheFolds.{fold-Expr, fold-Part}
@@ -69,17 +70,13 @@ holds_of cond.Yes env = Some true
 holds_of cond.No env = Some false
 holds_of (cond.Cmp op l r) env = with_value (value_of l env) (λ v. with_value (value_of r env) (λ w. Some (compared op v w)))
 
-abbrev pub all_true : List Bool → Bool
-all_true [] = true
-all_true (b ∷ bs) = b && all_true bs
-
 abbrev pub slots_step : ℕ → Expr-F Bool Bool → Bool
 slots_step n (Expr-F.Const c) = true
 slots_step n (Expr-F.Var slot) = nat_lt slot n
 slots_step n Expr-F.Result_ = false
 slots_step n (Expr-F.Neg e) = e
-slots_step n (Expr-F.Sum parts) = all_true parts
-slots_step n (Expr-F.Product factors) = all_true factors
+slots_step n (Expr-F.Sum parts) = list_all (λ is. is) parts
+slots_step n (Expr-F.Product factors) = list_all (λ is. is) factors
 
 abbrev pub part_slots_step : Part-F Bool Bool → Bool
 part_slots_step p = p.e

@@ -11,6 +11,7 @@ mod mode;
 mod need;
 mod program;
 mod straight;
+mod values;
 mod verdict;
 
 pub use act::{Act, Called, Step, Stmt};
@@ -22,4 +23,5 @@ pub use mode::{AllocKind, Mode, Rung};
 pub use need::{Need, Reply, RmwOp, Standing, Started};
 pub use program::{Inv, Proc, Program};
 pub use straight::is_straight;
+pub use values::{eval, holds};
 pub use verdict::{Kind, Mood, Outcome, Verdict};
