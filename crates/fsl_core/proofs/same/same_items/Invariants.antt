@@ -1,0 +1,8 @@
+use Rattle.std.proofs.Common.{◌≡◌, length, take}
+use Rattle.fsl_core.proofs.same.same_items.Given as goal
+
+abbrev pub invariant-loop-i : goal.invariant-loop-i
+invariant-loop-i g l = record {
+  as_long : length l.a ≡ length l.b;
+  as_far : take l.i l.a ≡ take l.i l.b;
+}

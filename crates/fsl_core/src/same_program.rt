@@ -1,0 +1,42 @@
+//! Equality of programs.
+ghost use Rattle.std.specs.Prelude.{◌≡◌, IsTrue, ◌↔◌};
+
+use crate::program::{Inv, Proc, Program};
+use crate::same::same_items;
+use fsl_base::Same;
+
+impl Program {
+    /// Whether two programs are equal, names and places included. It takes no memory.
+    pub fn same(&self, o: &Program) -> bool
+        ensures { IsTrue result ↔ (self.now ≡ o.now) }
+    {
+        same_items(self.invs.as_slice(), o.invs.as_slice())
+            && same_items(self.procs.as_slice(), o.procs.as_slice())
+    }
+}
+
+impl Same for Inv {
+    fn same(&self, other: &Inv) -> bool
+        ensures { IsTrue result ↔ (self.now ≡ other.now) }
+    {
+        self.name.same(&other.name)
+            && self.params == other.params
+            && self.slots == other.slots
+            && same_items(self.parts.as_slice(), other.parts.as_slice())
+    }
+}
+
+impl Same for Proc {
+    fn same(&self, other: &Proc) -> bool
+        ensures { IsTrue result ↔ (self.now ≡ other.now) }
+    {
+        self.name.same(&other.name)
+            && self.params == other.params
+            && self.slots == other.slots
+            && self.banks.as_slice() == other.banks.as_slice()
+            && self.pre.same(&other.pre)
+            && self.post.same(&other.post)
+            && same_items(self.body.as_slice(), other.body.as_slice())
+            && self.last == other.last
+    }
+}
