@@ -5,6 +5,7 @@
 mod act;
 mod assertion;
 mod chunk;
+mod copy_act;
 mod copy_assertion;
 mod copy_expr;
 mod expr;
