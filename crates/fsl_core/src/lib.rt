@@ -8,6 +8,7 @@ mod chunk;
 mod copy_act;
 mod copy_assertion;
 mod copy_expr;
+mod copy_program;
 mod expr;
 mod label;
 mod mode;

@@ -1,0 +1,54 @@
+//! Copies of programs.
+ghost use Rattle.std.specs.Prelude.{◌≡◌, IfOk};
+
+use crate::program::{Inv, Proc, Program};
+use fsl_base::{List, TryClone};
+use std::alloc::{AllocError, Global};
+
+impl Program {
+    /// An equal program. It fails for want of memory alone.
+    pub fn copy(&self, alloc: Global) -> Result<Program, AllocError>
+        ensures { IfOk result (λ copy. copy ≡ self.now) }
+    {
+        let invs = self.invs.try_clone(alloc)?;
+        let procs = self.procs.try_clone(alloc)?;
+        Ok(Program { invs, procs })
+    }
+}
+
+impl TryClone for Inv {
+    fn try_clone(&self, alloc: Global) -> Result<Inv, AllocError>
+        ensures { IfOk result (λ copy. copy ≡ self.now) }
+    {
+        let name = self.name.try_clone(alloc)?;
+        let parts = self.parts.try_clone(alloc)?;
+        Ok(Inv {
+            name,
+            params: self.params,
+            slots: self.slots,
+            parts,
+        })
+    }
+}
+
+impl TryClone for Proc {
+    fn try_clone(&self, alloc: Global) -> Result<Proc, AllocError>
+        ensures { IfOk result (λ copy. copy ≡ self.now) }
+    {
+        let name = self.name.try_clone(alloc)?;
+        let banks = List::from_slice(alloc, self.banks.as_slice())?;
+        let pre = self.pre.try_clone(alloc)?;
+        let post = self.post.try_clone(alloc)?;
+        let body = self.body.try_clone(alloc)?;
+        Ok(Proc {
+            name,
+            params: self.params,
+            slots: self.slots,
+            banks,
+            pre,
+            post,
+            body,
+            last: self.last,
+        })
+    }
+}
