@@ -20,6 +20,8 @@ mod same_assertion;
 mod same_expr;
 mod same_program;
 mod straight;
+#[cfg(test)]
+mod tests;
 mod values;
 mod verdict;
 

@@ -1,0 +1,352 @@
+//! Tests of what no clause says: values at the edges of the range, and that copies succeed where there
+//! is memory.
+ghost use Rattle.std.specs.Prelude.{◌≡◌, [], ◌∷◌, IsTrue, IfOk};
+ghost use Rattle.fsl_core.specs.Values.{slots_below};
+
+use crate::act::{Act, Called, Step, Stmt};
+use crate::assertion::{Asrt, Inst, Pat};
+use crate::expr::{CmpOp, Cond, Expr, Part};
+use crate::mode::Mode;
+use crate::program::{Inv, Proc, Program};
+use crate::values::{eval, holds};
+use fsl_base::{Boxed, List, Span, Text};
+use std::alloc::{AllocError, Global};
+
+const LEAST: i128 = -9_223_372_036_854_775_808;
+
+const GREATEST: i128 = 9_223_372_036_854_775_807;
+
+fn one<T: Drop>(alloc: Global, item: T) -> Result<List<T>, AllocError>
+    ensures { IfOk result (λ list. list ≡ item ∷ []) }
+{
+    let mut items = List::new(alloc);
+    items.push(item)?;
+    Ok(items)
+}
+
+#[test]
+fn a_constant_is_a_value_within_the_range_alone(rt: HostRuntime) {
+    let env = List::new(rt.alloc());
+    for (n, want) in [
+        (LEAST, Some(i64::MIN)),
+        (GREATEST, Some(i64::MAX)),
+        (LEAST - 1, None),
+        (GREATEST + 1, None),
+    ] {
+        assert_eq!(rt; eval(&Expr::Const { n }, &env), want);
+    }
+}
+
+#[test]
+fn a_condition_compares_its_sides(rt: HostRuntime) {
+    let env = List::new(rt.alloc());
+    for (op, below, equal, above) in [
+        (CmpOp::Eq, false, true, false),
+        (CmpOp::Ne, true, false, true),
+        (CmpOp::Lt, true, false, false),
+        (CmpOp::Le, true, true, false),
+        (CmpOp::Gt, false, false, true),
+        (CmpOp::Ge, false, true, true),
+    ] {
+        for (n, want) in [(-1, below), (0, equal), (1, above)] {
+            let l = Expr::Const { n };
+            let r = Expr::Const { n: 0 };
+            assert_eq!(rt; holds(&Cond::Cmp { op, l, r }, &env), Some(want));
+        }
+    }
+}
+
+// `l + r`, or `l - r`.
+fn sum(alloc: Global, l: i128, minus: bool, r: i128) -> Result<Expr, AllocError>
+    ensures { IfOk result (λ e. IsTrue (slots_below 0 e)) }
+{
+    let e = Expr::Const { n: l };
+    let mut parts = one(alloc, Part { minus: false, e })?;
+    let e = Expr::Const { n: r };
+    parts.push(Part { minus, e })?;
+    Ok(Expr::Sum { parts })
+}
+
+// `-n`
+fn negation(alloc: Global, n: i128) -> Result<Expr, AllocError>
+    ensures { IfOk result (λ e. IsTrue (slots_below 0 e)) }
+{
+    let e = Boxed::new(alloc, Expr::Const { n })?;
+    Ok(Expr::Neg { e })
+}
+
+#[test]
+fn a_result_is_a_value_within_the_range_alone(rt: HostRuntime) {
+    let env = List::new(rt.alloc());
+    for (l, minus, r, want) in [
+        (GREATEST, false, 1, None),
+        (GREATEST, true, 1, Some(i64::MAX - 1)),
+        (LEAST, true, 1, None),
+        (LEAST, false, GREATEST, Some(-1)),
+    ] {
+        let e = sum(rt.alloc(), l, minus, r).expect(&rt, "no memory");
+        assert_eq!(rt; eval(&e, &env), want);
+    }
+    for (n, want) in [
+        (GREATEST, Some(i64::MIN + 1)),
+        (GREATEST + 1, None),
+        (LEAST, None),
+    ] {
+        let e = negation(rt.alloc(), n).expect(&rt, "no memory");
+        assert_eq!(rt; eval(&e, &env), want);
+    }
+}
+
+fn constant(n: i128) -> Expr {
+    Expr::Const { n }
+}
+
+fn inst(alloc: Global) -> Result<Inst, AllocError> {
+    let args = one(alloc, constant(1))?;
+    Ok(Inst { inv: 0, args })
+}
+
+fn condition() -> Cond {
+    Cond::Cmp {
+        op: CmpOp::Le,
+        l: constant(1),
+        r: Expr::Var { slot: 0 },
+    }
+}
+
+// An expression of every kind.
+fn expression(alloc: Global) -> Result<Expr, AllocError> {
+    let mut parts = List::new(alloc);
+    parts.push(Part {
+        minus: false,
+        e: Expr::Result_,
+    })?;
+    let e = Boxed::new(alloc, constant(2))?;
+    parts.push(Part {
+        minus: true,
+        e: Expr::Neg { e },
+    })?;
+    let factors = one(alloc, Expr::Var { slot: 1 })?;
+    parts.push(Part {
+        minus: false,
+        e: Expr::Product { parts: factors },
+    })?;
+    Ok(Expr::Sum { parts })
+}
+
+fn add_memory_assertions(alloc: Global, to: &mut List<Asrt>) -> Result<(), AllocError> {
+    to.push(Asrt::Emp)?;
+    to.push(Asrt::Fact { cond: condition() })?;
+    for pat in [Pat::Any, Pat::Bind { slot: 1 }, Pat::Is { e: constant(3) }] {
+        let at = constant(1);
+        let share = constant(2);
+        to.push(Asrt::Points { at, share, pat })?;
+    }
+    to.push(Asrt::Init { at: constant(1) })?;
+    let inst = inst(alloc)?;
+    to.push(Asrt::Rel {
+        at: constant(1),
+        inst,
+    })
+}
+
+fn add_leaves_and_tokens(alloc: Global, to: &mut List<Asrt>, n: i128) -> Result<(), AllocError> {
+    let first = inst(alloc)?;
+    let out = one(alloc, constant(n))?;
+    to.push(Asrt::Acq {
+        at: constant(1),
+        inst: first,
+        part: 0,
+        out,
+    })?;
+    let second = inst(alloc)?;
+    to.push(Asrt::RmwAcq {
+        at: constant(1),
+        inst: second,
+    })?;
+    to.push(Asrt::Tok {
+        bank: 2,
+        n: constant(1),
+    })?;
+    to.push(Asrt::Auth {
+        bank: 2,
+        n: constant(1),
+    })
+}
+
+fn add_nested(alloc: Global, to: &mut List<Asrt>) -> Result<(), AllocError> {
+    let a = Boxed::new(alloc, Asrt::Emp)?;
+    to.push(Asrt::Up { a })?;
+    let a = Boxed::new(alloc, Asrt::Emp)?;
+    to.push(Asrt::Down { a })?;
+    let yes = Boxed::new(alloc, Asrt::Emp)?;
+    let no = Boxed::new(alloc, Asrt::Init { at: constant(1) })?;
+    to.push(Asrt::Choice {
+        cond: condition(),
+        yes,
+        no,
+    })
+}
+
+// An assertion with one of every kind, and the number `n` in it.
+fn assertion(alloc: Global, n: i128) -> Result<Asrt, AllocError> {
+    let mut parts = List::new(alloc);
+    add_memory_assertions(alloc, &mut parts)?;
+    add_leaves_and_tokens(alloc, &mut parts, n)?;
+    add_nested(alloc, &mut parts)?;
+    Ok(Asrt::Both { parts })
+}
+
+fn at(act: Act) -> Stmt {
+    let span = Span { from: 3, to: 5 };
+    Stmt { span, act }
+}
+
+fn token_step() -> Step {
+    Step {
+        mint: true,
+        bank: 2,
+        n: constant(1),
+    }
+}
+
+fn add_accesses(alloc: Global, to: &mut List<Stmt>) -> Result<(), AllocError> {
+    let e = expression(alloc)?;
+    to.push(at(Act::Set { slot: 1, e }))?;
+    to.push(at(Act::AllocNa { slot: 1 }))?;
+    let inst = inst(alloc)?;
+    to.push(at(Act::AllocAt {
+        slot: 1,
+        rmw: true,
+        inst,
+    }))?;
+    to.push(at(Act::Free { at: constant(1) }))?;
+    to.push(at(Act::Load {
+        slot: 1,
+        mode: Mode::Acq,
+        at: constant(1),
+    }))?;
+    to.push(at(Act::Store {
+        mode: Mode::Rel,
+        at: constant(1),
+        e: constant(2),
+    }))
+}
+
+fn add_rmws(alloc: Global, to: &mut List<Stmt>) -> Result<(), AllocError> {
+    let steps = one(alloc, token_step())?;
+    to.push(at(Act::Cas {
+        slot: 1,
+        mode: Mode::AcqRel,
+        fail: Mode::Rlx,
+        at: constant(1),
+        old: constant(2),
+        new: constant(3),
+        steps,
+    }))?;
+    let steps = one(alloc, token_step())?;
+    to.push(at(Act::Add {
+        slot: 1,
+        mode: Mode::Rlx,
+        at: constant(1),
+        e: constant(2),
+        steps,
+    }))?;
+    let steps = one(alloc, token_step())?;
+    to.push(at(Act::Swap {
+        slot: 1,
+        mode: Mode::Rlx,
+        at: constant(1),
+        e: constant(2),
+        steps,
+    }))
+}
+
+fn add_calls(alloc: Global, to: &mut List<Stmt>) -> Result<(), AllocError> {
+    let args = one(alloc, constant(1))?;
+    to.push(at(Act::Call {
+        slot: Some(1),
+        proc: 0,
+        args,
+    }))?;
+    let args = one(alloc, constant(1))?;
+    let calls = one(alloc, Called { proc: 0, args })?;
+    to.push(at(Act::Par { calls }))?;
+    to.push(at(Act::Fence {
+        mode: Mode::Rel,
+        asrt: Asrt::Emp,
+    }))?;
+    to.push(at(Act::Step { step: token_step() }))
+}
+
+fn add_control(alloc: Global, to: &mut List<Stmt>) -> Result<(), AllocError> {
+    let yes = one(alloc, at(Act::Print { e: constant(1) }))?;
+    let no = one(alloc, at(Act::Bank { slot: 2 }))?;
+    to.push(at(Act::If {
+        cond: condition(),
+        yes,
+        no,
+    }))?;
+    let body = one(alloc, at(Act::Assert { cond: Cond::Yes }))?;
+    to.push(at(Act::While {
+        cond: Cond::No,
+        inv: Asrt::Emp,
+        body,
+    }))?;
+    to.push(at(Act::Return { e: constant(1) }))
+}
+
+fn body(alloc: Global) -> Result<List<Stmt>, AllocError> {
+    let mut body = List::new(alloc);
+    add_accesses(alloc, &mut body)?;
+    add_rmws(alloc, &mut body)?;
+    add_calls(alloc, &mut body)?;
+    add_control(alloc, &mut body)?;
+    Ok(body)
+}
+
+fn invariant(alloc: Global, n: i128) -> Result<Inv, AllocError> {
+    let name = Text::from_str(alloc, "lock")?;
+    let asrt = assertion(alloc, n)?;
+    let parts = one(alloc, asrt)?;
+    Ok(Inv {
+        name,
+        params: 1,
+        slots: 3,
+        parts,
+    })
+}
+
+fn procedure(alloc: Global) -> Result<Proc, AllocError> {
+    let name = Text::from_str(alloc, "main")?;
+    let banks = one(alloc, 2)?;
+    let body = body(alloc)?;
+    Ok(Proc {
+        name,
+        params: 0,
+        slots: 3,
+        banks,
+        pre: Asrt::Emp,
+        post: Asrt::Fact { cond: Cond::Yes },
+        body,
+        last: Span { from: 7, to: 8 },
+    })
+}
+
+// A program with one of every kind of statement and assertion, and the number `n` in its invariant.
+fn program(alloc: Global, n: i128) -> Result<Program, AllocError> {
+    let inv = invariant(alloc, n)?;
+    let invs = one(alloc, inv)?;
+    let proc = procedure(alloc)?;
+    let procs = one(alloc, proc)?;
+    Ok(Program { invs, procs })
+}
+
+#[test]
+fn a_copy_is_the_same_as_its_program_alone(rt: HostRuntime) {
+    let first = program(rt.alloc(), 1).expect(&rt, "no memory");
+    let second = program(rt.alloc(), 2).expect(&rt, "no memory");
+    let copy = first.copy(rt.alloc()).expect(&rt, "no memory");
+    assert!(rt; copy.same(&first));
+    assert!(rt; !copy.same(&second));
+}
