@@ -37,43 +37,73 @@ impl TryClone for Asrt {
     fn try_clone(&self, alloc: Global) -> Result<Asrt, AllocError>
         ensures { IfOk result (λ copy. copy ≡ self.now) }
     {
-        match self {
-            Asrt::Emp => Ok(Asrt::Emp),
-            Asrt::Fact { cond } => fact(alloc, cond),
-            Asrt::Points { at, share, pat } => points(alloc, at, share, pat),
-            Asrt::Init { at } => init(alloc, at),
-            Asrt::Rel { at, inst } => rel(alloc, at, inst),
-            Asrt::Acq {
-                at,
-                inst,
-                part,
-                out,
-            } => acq(alloc, at, inst, *part, out),
-            Asrt::RmwAcq { at, inst } => rmw_acq(alloc, at, inst),
-            Asrt::Tok { bank, n } => tok(alloc, *bank, n),
-            Asrt::Auth { bank, n } => auth(alloc, *bank, n),
-            Asrt::Choice { cond, yes, no } => {
-                let yes = yes.get().try_clone(alloc)?;
-                let no = no.get().try_clone(alloc)?;
-                choice(alloc, cond, yes, no)
-            }
-            Asrt::Up { a } => {
-                let a = a.get().try_clone(alloc)?;
-                up(alloc, a)
-            }
-            Asrt::Down { a } => {
-                let a = a.get().try_clone(alloc)?;
-                down(alloc, a)
-            }
-            Asrt::Both { parts } => {
-                let mut copies = List::new(alloc);
-                for part in parts.as_slice() {
-                    copies.push(part.try_clone(alloc)?)?;
-                }
-                Ok(Asrt::Both { parts: copies })
-            }
-        }
+        copy_asrt(alloc, self)
     }
+}
+
+#[cycle(copy_asrt)]
+fn copy_asrt(alloc: Global, asrt: &Asrt) -> Result<Asrt, AllocError>
+    ensures { IfOk result (λ copy. copy ≡ asrt.now) }
+{
+    match asrt {
+        Asrt::Emp => Ok(Asrt::Emp),
+        Asrt::Fact { cond } => fact(alloc, cond),
+        Asrt::Points { at, share, pat } => points(alloc, at, share, pat),
+        Asrt::Init { at } => init(alloc, at),
+        Asrt::Rel { at, inst } => rel(alloc, at, inst),
+        Asrt::Acq {
+            at,
+            inst,
+            part,
+            out,
+        } => acq(alloc, at, inst, *part, out),
+        Asrt::RmwAcq { at, inst } => rmw_acq(alloc, at, inst),
+        Asrt::Tok { bank, n } => tok(alloc, *bank, n),
+        Asrt::Auth { bank, n } => auth(alloc, *bank, n),
+        Asrt::Choice { cond, yes, no } => {
+            let yes = copy_boxed(alloc, yes.get())?;
+            let no = copy_boxed(alloc, no.get())?;
+            choice(alloc, cond, yes, no)
+        }
+        Asrt::Up { a } => copy_up(alloc, a.get()),
+        Asrt::Down { a } => copy_down(alloc, a.get()),
+        Asrt::Both { parts } => copy_both(alloc, parts.as_slice()),
+    }
+}
+
+#[cycle(copy_asrt)]
+fn copy_boxed(alloc: Global, a: &Asrt) -> Result<Boxed<Asrt>, AllocError>
+    ensures { IfOk result (λ copy. copy ≡ a.now) }
+{
+    let a = copy_asrt(alloc, a)?;
+    Boxed::new(alloc, a)
+}
+
+#[cycle(copy_asrt)]
+fn copy_up(alloc: Global, a: &Asrt) -> Result<Asrt, AllocError>
+    ensures { IfOk result (λ copy. copy ≡ Asrt.Up a.now) }
+{
+    let a = copy_boxed(alloc, a)?;
+    Ok(Asrt::Up { a })
+}
+
+#[cycle(copy_asrt)]
+fn copy_down(alloc: Global, a: &Asrt) -> Result<Asrt, AllocError>
+    ensures { IfOk result (λ copy. copy ≡ Asrt.Down a.now) }
+{
+    let a = copy_boxed(alloc, a)?;
+    Ok(Asrt::Down { a })
+}
+
+#[cycle(copy_asrt)]
+fn copy_both(alloc: Global, parts: &[Asrt]) -> Result<Asrt, AllocError>
+    ensures { IfOk result (λ copy. copy ≡ Asrt.Both parts.now) }
+{
+    let mut copies = List::new(alloc);
+    for part in parts {
+        copies.push(copy_asrt(alloc, part)?)?;
+    }
+    Ok(Asrt::Both { parts: copies })
 }
 
 fn fact(alloc: Global, cond: &Cond) -> Result<Asrt, AllocError>
@@ -150,25 +180,9 @@ fn auth(alloc: Global, bank: u32, n: &Expr) -> Result<Asrt, AllocError>
 }
 
 /// A choice of two assertions that are copies already.
-fn choice(alloc: Global, cond: &Cond, yes: Asrt, no: Asrt) -> Result<Asrt, AllocError>
+fn choice(alloc: Global, cond: &Cond, yes: Boxed<Asrt>, no: Boxed<Asrt>) -> Result<Asrt, AllocError>
     ensures { IfOk result (λ copy. copy ≡ Asrt.Choice cond.now yes no) }
 {
     let cond = cond.try_clone(alloc)?;
-    let yes = Boxed::new(alloc, yes)?;
-    let no = Boxed::new(alloc, no)?;
     Ok(Asrt::Choice { cond, yes, no })
-}
-
-fn up(alloc: Global, a: Asrt) -> Result<Asrt, AllocError>
-    ensures { IfOk result (λ copy. copy ≡ Asrt.Up a) }
-{
-    let a = Boxed::new(alloc, a)?;
-    Ok(Asrt::Up { a })
-}
-
-fn down(alloc: Global, a: Asrt) -> Result<Asrt, AllocError>
-    ensures { IfOk result (λ copy. copy ≡ Asrt.Down a) }
-{
-    let a = Boxed::new(alloc, a)?;
-    Ok(Asrt::Down { a })
 }
