@@ -9,8 +9,6 @@ use Rattle.fsl_core.specs.declared.act.Act.TheOpen.{Act-F}
 use Rattle.fsl_core.specs.declared.act.Act.TheViews.{out-Act}
 use Rattle.fsl_core.specs.declared.act.Called.{Called}
 use Rattle.fsl_core.specs.declared.act.Stmt.{Stmt}
-use Rattle.fsl_core.specs.declared.assertion.Asrt.{Asrt}
-use Rattle.fsl_core.specs.declared.expr.Cond.{Cond}
 use Rattle.fsl_core.specs.declared.expr.Expr.{Expr}
 use Rattle.fsl_core.specs.declared.label.Ended.{Ended}
 use Rattle.fsl_core.specs.declared.label.Label.{Label}
@@ -22,7 +20,6 @@ use Rattle.fsl_core.specs.declared.need.Need.{Need}
 use Rattle.fsl_core.specs.declared.need.Need.TheVariants as need
 use Rattle.fsl_core.specs.declared.need.Reply.{Reply}
 use Rattle.fsl_core.specs.declared.need.Reply.TheVariants as reply
-use Rattle.fsl_core.specs.declared.need.RmwOp.{RmwOp}
 use Rattle.fsl_core.specs.declared.need.RmwOp.TheVariants as op
 use Rattle.fsl_core.specs.declared.need.Standing.{Standing}
 use Rattle.fsl_core.specs.declared.need.Standing.TheVariants as standing
