@@ -6,3 +6,5 @@ pub mod Consistent
 pub mod Execution
 pub mod Safe
 pub mod Positions
+pub mod Orders
+pub mod Edges

@@ -1,0 +1,4 @@
+pub mod Paths
+pub mod Along
+pub mod Places
+pub mod Edges

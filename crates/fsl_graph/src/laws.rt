@@ -1,0 +1,19 @@
+//! What the relations of a graph come to. Each call does nothing; its contract is a family of laws.
+ghost use Rattle.fsl_graph.specs.Edges.{SbEdgesDecided, EdgesDecided};
+ghost use Rattle.fsl_graph.specs.Orders.{HbAlongEdges, ClosedUnderHb, PrefixesClosed, NextComes, OneUpdate, ForwardOrder};
+
+/// Happens-before goes along sequenced-before and reads-from, so that no part of an execution that is closed
+/// under these is ever entered from outside; a source has one read-modify-write at most.
+pub fn along_edges()
+    ensures hb { HbAlongEdges }
+    ensures closed { ClosedUnderHb }
+    ensures prefixes { PrefixesClosed }
+    ensures next { NextComes }
+    ensures update { OneUpdate }
+{}
+
+/// Edges can be told by tests.
+pub fn edge_tests()
+    ensures sb { SbEdgesDecided }
+    ensures edge { EdgesDecided }
+{}
