@@ -2,3 +2,6 @@ pub mod Paths
 pub mod Along
 pub mod Places
 pub mod Edges
+pub mod Reach
+pub mod Sorted
+pub mod Forward

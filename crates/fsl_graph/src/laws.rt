@@ -17,3 +17,9 @@ pub fn edge_tests()
     ensures sb { SbEdgesDecided }
     ensures edge { EdgesDecided }
 {}
+
+/// Each consistent execution whose thread order and reads-from have no cycle together can be gone through
+/// event by event.
+pub fn forward_orders()
+    ensures { ForwardOrder }
+{}
