@@ -8,3 +8,4 @@ pub mod Safe
 pub mod Positions
 pub mod Orders
 pub mod Edges
+pub mod Ends

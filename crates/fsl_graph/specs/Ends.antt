@@ -1,0 +1,14 @@
+-- Threads that have returned: their last event is an End.
+use Rattle.std.specs.Prelude.{ℕ, ◌≡◌, ◌≤◌, ℤ}
+use Rattle.fsl_core.specs.declared.label.Label.TheVariants as label
+use Rattle.fsl_graph.specs.declared.event.Event.{Event}
+use Rattle.fsl_graph.specs.declared.graph.Graph.{Graph}
+use Rattle.fsl_graph.specs.Events.{Is}
+
+-- event d ends thread t, and is the last one of it
+pub record IsEndOf (g : Graph) (t d : ℕ) (v : ℤ) : Type 0 where
+  pub event : Event
+  pub is : Is g d event
+  pub thread : event.thread ≡ t
+  pub ends : event.label ≡ label.End v
+  pub last : (b : ℕ) (y : Event) → Is g b y → y.thread ≡ t → b ≤ d
