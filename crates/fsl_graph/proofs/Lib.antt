@@ -5,3 +5,4 @@ pub mod Edges
 pub mod Reach
 pub mod Sorted
 pub mod Forward
+pub mod Reading

@@ -57,7 +57,7 @@ update_places g c w e k m l old new u r h =
     subst (λ (n : ℕ). Listed g l e n) n p.1
 
 -- the location of a source is that of its reads
-source_written : (g : Graph) → IsConsistent g → (w e : ℕ) (m : Mode) (l v : ℤ) → Reads g e m l v → Rf g w e → (n : Mode) × Writes g w n l v
+pub source_written : (g : Graph) → IsConsistent g → (w e : ℕ) (m : Mode) (l v : ℤ) → Reads g e m l v → Rf g w e → (n : Mode) × Writes g w n l v
 source_written g c w e m l v h r =
     let s = c.sources w e r in
     let p = s.reads.is in

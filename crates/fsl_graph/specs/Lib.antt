@@ -9,3 +9,4 @@ pub mod Positions
 pub mod Orders
 pub mod Edges
 pub mod Ends
+pub mod Reading

@@ -1,6 +1,7 @@
 //! What the relations of a graph come to. Each call does nothing; its contract is a family of laws.
 ghost use Rattle.fsl_graph.specs.Edges.{SbEdgesDecided, EdgesDecided};
 ghost use Rattle.fsl_graph.specs.Orders.{HbAlongEdges, ClosedUnderHb, PrefixesClosed, NextComes, OneUpdate, ForwardOrder};
+ghost use Rattle.fsl_graph.specs.Reading.{ReadHasSource, ReadSeesLast, WriteIsLast, LastStays, OneLast};
 
 /// Happens-before goes along sequenced-before and reads-from, so that no part of an execution that is closed
 /// under these is ever entered from outside; a source has one read-modify-write at most.
@@ -22,4 +23,13 @@ pub fn edge_tests()
 /// event by event.
 pub fn forward_orders()
     ensures { ForwardOrder }
+{}
+
+/// Where the writes of a location happened before a read, it reads the last of them.
+pub fn reading()
+    ensures source { ReadHasSource }
+    ensures last { ReadSeesLast }
+    ensures write { WriteIsLast }
+    ensures stays { LastStays }
+    ensures one { OneLast }
 {}
