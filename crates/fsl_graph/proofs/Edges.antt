@@ -22,6 +22,9 @@ in_is_in x [] i = elim i [ ]
 in_is_in x (y ∷ ys) (inl e) = or_left (x == y) (is_in x ys) (eq-eqb x y e)
 in_is_in x (y ∷ ys) (inr i) = or_right (x == y) (is_in x ys) (in_is_in x ys i)
 
+pub not_in : (x : ℕ) (ys : List ℕ) → is_in x ys ≡ false → In x ys → ⊥
+not_in x ys h i = absurd (let k = in_is_in x ys i in cc)
+
 -- ---- labels
 
 none_true : {P : Type 0} → false ≡ true → P

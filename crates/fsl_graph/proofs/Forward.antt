@@ -33,7 +33,7 @@ below_in (suc n) e (inr i) = let h = below_in n e i in omega arith
 pub is_event : (g : Graph) (e : ℕ) (x : Event) → Is g e x → e < length g.events
 is_event g e x i = slice_get_within g.events e x i
 
-sb_from : (g : Graph) (a b : ℕ) → SbEdge g a b → a < length g.events
+pub sb_from : (g : Graph) (a b : ℕ) → SbEdge g a b → a < length g.events
 sb_from g a b (by_order p) = is_event g a p.earlier p.is_earlier
 sb_from g a b (by_fork f) = is_event g a f.fork f.is_fork
 sb_from g a b (by_join j) = is_event g a j.last j.is_last

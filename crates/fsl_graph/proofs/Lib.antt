@@ -6,3 +6,6 @@ pub mod Reach
 pub mod Sorted
 pub mod Forward
 pub mod Reading
+pub mod Acquiring
+pub mod Closure
+pub mod Shapes

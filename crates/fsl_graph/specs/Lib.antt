@@ -10,3 +10,5 @@ pub mod Orders
 pub mod Edges
 pub mod Ends
 pub mod Reading
+pub mod Graphs
+pub mod Shapes

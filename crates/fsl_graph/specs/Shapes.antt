@@ -1,0 +1,30 @@
+-- What must be ordered by happens-before in the example graphs, and what must not.
+use Rattle.std.specs.Prelude.{ℕ, ◌≡◌}
+use Rattle.fsl_graph.specs.Happens.{Hb}
+use Rattle.fsl_graph.specs.Safe.{IsRace}
+use Rattle.fsl_graph.specs.Graphs.{message_passing, relaxed_passing, fenced_passing, sequence_passing, fork_join, store_buffering}
+
+-- the write of the message happens before its read
+abbrev pub MessagePassed : Type 0
+MessagePassed = Hb message_passing 4 7
+
+abbrev pub FencesPass : Type 0
+FencesPass = Hb fenced_passing 4 9
+
+abbrev pub SequencePasses : Type 0
+SequencePasses = Hb sequence_passing 4 8
+
+-- by relaxed accesses alone it doesn't, and races with it
+abbrev pub RelaxedRaces : Type 0
+RelaxedRaces = IsRace relaxed_passing 4 7
+
+-- what the parent did before the Fork, and what the child did before the Join
+abbrev pub ForkPasses : Type 0
+ForkPasses = Hb fork_join 1 3
+
+abbrev pub JoinPasses : Type 0
+JoinPasses = Hb fork_join 4 7
+
+-- neither write of store buffering happens before the other thread's read
+abbrev pub BuffersApart : Type 0
+BuffersApart = (Hb store_buffering 5 8 → ⊥) × (Hb store_buffering 7 6 → ⊥)
