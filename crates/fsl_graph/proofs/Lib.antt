@@ -6,6 +6,9 @@ pub mod Reach
 pub mod Sorted
 pub mod Forward
 pub mod Reading
+pub mod Returning
+pub mod Numbered
+pub mod Ended
 pub mod Acquiring
 pub mod Closure
 pub mod Shapes

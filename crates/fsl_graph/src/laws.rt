@@ -1,5 +1,6 @@
 //! What the relations of a graph come to. Each call does nothing; its contract is a family of laws.
 ghost use Rattle.fsl_graph.specs.Edges.{SbEdgesDecided, EdgesDecided};
+ghost use Rattle.fsl_graph.specs.Ends.{JoinedEnded};
 ghost use Rattle.fsl_graph.specs.Orders.{HbAlongEdges, ClosedUnderHb, PrefixesClosed, NextComes, OneUpdate, ForwardOrder};
 ghost use Rattle.fsl_graph.specs.Reading.{ReadHasSource, ReadSeesLast, WriteIsLast, LastStays, OneLast};
 ghost use Rattle.fsl_graph.specs.Shapes.{MessagePassed, FencesPass, SequencePasses, ForkPasses, JoinPasses, BuffersApart, RelaxedRaces};
@@ -44,4 +45,9 @@ pub fn shapes()
     ensures join { JoinPasses }
     ensures buffers { BuffersApart }
     ensures relaxed { RelaxedRaces }
+{}
+
+/// A Join waits for threads that have ended.
+pub fn joins()
+    ensures { JoinedEnded }
 {}
