@@ -22,7 +22,7 @@ pub along_sequence : (g : Graph) (w u : ℕ) → InSequence g w u → (w ≡ u) 
 along_sequence g w u head = inl refl
 along_sequence g w u (next s r x) = inr (path_behind (along_sequence g w _ s) (one (along_rf r)))
 
-along_release : (g : Graph) (p w : ℕ) → ReleasePoint g p w → (p ≡ w) ⊎ Path (Edge g) p w
+pub along_release : (g : Graph) (p w : ℕ) → ReleasePoint g p w → (p ≡ w) ⊎ Path (Edge g) p w
 along_release g p w (at_write x m e) = inl e
 along_release g p w (release_fence x m f k o) = inr (by_po g p w o)
 

@@ -11,20 +11,21 @@ use Rattle.fsl_graph.specs.Events.{Is, is_atomic, acquires, releases, Reads, Wri
 use Rattle.fsl_graph.specs.Sequenced.{In, Path, Po, Rf, Edge, thread_of}
 use Rattle.fsl_graph.specs.Sequenced.Path.{one}
 use Rattle.fsl_graph.specs.Sequenced.SbEdge.{by_order, by_fork as fork_edge, by_join}
-use Rattle.fsl_graph.specs.Sequenced.Edge.{by_sb as along_sb}
+use Rattle.fsl_graph.specs.Sequenced.Edge.{by_sb as along_sb, by_rf as along_rf}
 use Rattle.fsl_graph.specs.Happens.{Hb, HbEdge, InSequence, Sw}
 use Rattle.fsl_graph.specs.Happens.HbEdge.{by_sb, by_sw}
 use Rattle.fsl_graph.specs.Happens.InSequence.{head, next}
 use Rattle.fsl_graph.specs.Happens.ReleasePoint.{at_write, at_fence as release_fence}
 use Rattle.fsl_graph.specs.Happens.AcquirePoint.{at_read, at_fence as acquire_fence}
 use Rattle.fsl_graph.specs.Execution.{Starts}
-use Rattle.fsl_graph.specs.Orders.{Comes}
+use Rattle.fsl_graph.specs.Orders.{Comes, IsClosed}
 use Rattle.fsl_graph.specs.Ends.{IsEndOf}
 use Rattle.fsl_graph.specs.Positions.{Position, Holder, IsSeen, IsFenced, IsSent, IsGot, Reaches, StandsFor}
 use Rattle.fsl_graph.specs.Positions.{Holder as holder}
 use Rattle.fsl_graph.specs.Positions.StandsFor.{by_event, by_fork}
-use Rattle.fsl_graph.proofs.Paths.{path_append, path_behind}
-use Rattle.fsl_own.specs.Knowledge.{PositionsGrow, MessagesStay, KnownBefore, OwnEventKnown, ForkTells, JoinTells, ReleaseWriteTells, AtomicWriteTells, UpdateTells, ReleaseFenceTells, AcquireFenceTells, AcquiringReadTells, AtomicReadTells}
+use Rattle.fsl_graph.proofs.Paths.{path_append, path_behind, closed_path}
+use Rattle.fsl_graph.proofs.Along.{along_sequence, along_release, closed_under_hb}
+use Rattle.fsl_own.specs.Knowledge.{PositionsGrow, MessagesStay, KnownBefore, OwnEventKnown, KnownRacesNot, KnownIsDone, ForkTells, JoinTells, ReleaseWriteTells, AtomicWriteTells, UpdateTells, ReleaseFenceTells, AcquireFenceTells, AcquiringReadTells, AtomicReadTells}
 
 -- ---- growth
 
@@ -74,3 +75,24 @@ known_at g done e x a c s = elim s.past [
 -- what happened before its event, a thread knows of after it
 pub known_after : (g : Graph) (done : List ℕ) (e : ℕ) (x : Event) (a : ℕ) → Comes g done e x → Reaches g a e → Position g (e ∷ done) (holder.Plain x.thread) a
 known_after g done e x a c r = record { last = e; past = inl refl; stands = by_event x c.is refl; reaches = r }
+
+pub known_races_not : KnownRacesNot
+known_races_not g done e x a c s r = r.unordered (known_before g done e x a c s)
+
+-- ---- what is done
+
+reached_done : (g : Graph) (done : List ℕ) (a b : ℕ) → IsClosed (Edge g) done → Reaches g a b → In b done → In a done
+reached_done g done a b c (inl e) i = subst (λ (n : ℕ). In n done) (sym e) i
+reached_done g done a b c (inr h) i = closed_under_hb g done c a b h i
+
+sent_done : (g : Graph) (done : List ℕ) (w a : ℕ) → IsClosed (Edge g) done → In w done → IsSent g w a → In a done
+sent_done g done w a c i s =
+    let first : In s.head done = elim (along_sequence g s.head w s.sequence) [ | inl e ↦ subst (λ (n : ℕ). In n done) (sym e) i | inr p ↦ closed_path done c s.head w p i ] in
+    let point : In s.point done = elim (along_release g s.point s.head s.release) [ | inl e ↦ subst (λ (n : ℕ). In n done) (sym e) first | inr p ↦ closed_path done c s.point s.head p first ] in
+    reached_done g done a s.point c s.reaches point
+
+pub known_is_done : KnownIsDone
+known_is_done g done (holder.Plain t) a c i s = reached_done g done a s.last c s.reaches s.past
+known_is_done g done (holder.Up t) a c i s = reached_done g done a s.fence c s.reaches s.past
+known_is_done g done (holder.Down t) a c i s = sent_done g done s.source a c (c s.source s.read (along_rf s.from) s.past) s.sent
+known_is_done g done (holder.Message w part) a c i s = sent_done g done w a c i s

@@ -1,6 +1,7 @@
 -- What each kind of event tells, by what happens before it.
-use Rattle.std.proofs.Common.{◌≡◌, ◌<◌, ◌≤◌, ℕ, suc, true, ◌⊎◌, inl, inr, List, [], ◌∷◌, Some, None, map, ℤ, subst, sym, refl, ap, ◌∙◌, arith}
+use Rattle.std.proofs.Common.{◌≡◌, ◌<◌, ◌≤◌, ℕ, zero, suc, true, ◌⊎◌, inl, inr, List, [], ◌∷◌, Some, None, slice_get, map, ℤ, subst, sym, refl, ap, ◌∙◌, arith}
 use Rattle.std.proofs.lemmas.Bool.{cases_eq}
+use Rattle.fsl_core.specs.declared.label.Ended.{Ended}
 use Rattle.fsl_core.specs.declared.label.Label.TheVariants as label
 use Rattle.fsl_core.specs.declared.mode.Mode.{Mode}
 use Rattle.fsl_graph.specs.declared.event.Event.{Event}
@@ -18,8 +19,9 @@ use Rattle.fsl_graph.specs.Orders.{Comes}
 use Rattle.fsl_graph.specs.Ends.{IsEndOf}
 use Rattle.fsl_graph.specs.Positions.{Position, IsSeen, IsFenced, IsSent, IsGot, Reaches, StandsFor}
 use Rattle.fsl_graph.specs.Positions.StandsFor.{by_event, by_fork}
+use Rattle.fsl_graph.proofs.Ended.{joined_ended}
 use Rattle.fsl_graph.proofs.Paths.{path_append, path_behind}
-use Rattle.fsl_own.specs.Knowledge.{ForkTells, JoinTells, ReleaseWriteTells, AtomicWriteTells, UpdateTells, ReleaseFenceTells, AcquireFenceTells, AcquiringReadTells, AtomicReadTells}
+use Rattle.fsl_own.specs.Knowledge.{ForkTells, JoinTells, AwaitTells, ReleaseWriteTells, AtomicWriteTells, UpdateTells, ReleaseFenceTells, AcquireFenceTells, AcquiringReadTells, AtomicReadTells}
 use Rattle.fsl_own.proofs.Knowing.{po_before, known_at, known_after}
 
 -- ---- threads
@@ -49,6 +51,20 @@ join_tells g done e x results t d v c j i n a s =
     known_after g done e x a c (inr (path_behind s.reaches (path_behind (to_end g t s.last d v n s.stands) (one (by_sb (join_edge (record {
       last = n.event; join = x; value = v; results = results; is_last = n.is; is_join = c.is; ends = n.ends; joins = j; child = rw n.thread i;
     })))))))
+
+awaited : (results : List Ended) (k : ℕ) (r : Ended) → slice_get results k ≡ Some r → In r.thread (map thread_of results)
+awaited [] k r h = absurd (let f : None ≡ Some r = h in cc)
+awaited (q ∷ qs) zero r h = let f : Some q ≡ Some r = h in let e : r ≡ q = cc in inl (ap thread_of e)
+awaited (q ∷ qs) (suc k) r h = inr (awaited qs k r h)
+
+pub await_tells : AwaitTells
+await_tells p g last ex done e x t v c w =
+    let n = joined_ended p g last ex e t v w in
+    let i = c.is in
+    let j = w.is in
+    let same : w.event ≡ x = cc in
+    join_tells g done e x w.results t n.0 v c (sym (ap (λ (y : Event). y.label) same) ∙ w.joins)
+    (subst (λ (s : ℕ). In s (map thread_of w.results)) w.thread (awaited w.results w.entry w.ended w.among)) n.1
 
 -- ---- writes
 

@@ -4,12 +4,16 @@ use Rattle.std.specs.Prelude.{ℕ, ◌≡◌, true, List, ◌∷◌, ℤ, map}
 use Rattle.fsl_core.specs.declared.label.Ended.{Ended}
 use Rattle.fsl_core.specs.declared.label.Label.TheVariants as label
 use Rattle.fsl_core.specs.declared.mode.Mode.{Mode}
+use Rattle.fsl_core.specs.declared.program.Program.{Program}
+use Rattle.fsl_core.specs.Moves.{Config}
 use Rattle.fsl_graph.specs.declared.event.Event.{Event}
 use Rattle.fsl_graph.specs.declared.graph.Graph.{Graph}
 use Rattle.fsl_graph.specs.Events.{is_atomic, acquires, releases, Reads, Writes, Updates, Fences}
-use Rattle.fsl_graph.specs.Sequenced.{In, Rf, thread_of}
+use Rattle.fsl_graph.specs.Sequenced.{In, Rf, Edge, thread_of}
 use Rattle.fsl_graph.specs.Happens.{Hb}
-use Rattle.fsl_graph.specs.Orders.{Comes}
+use Rattle.fsl_graph.specs.Execution.{IsExecution, Awaits}
+use Rattle.fsl_graph.specs.Safe.{IsRace}
+use Rattle.fsl_graph.specs.Orders.{Comes, IsClosed}
 use Rattle.fsl_graph.specs.Ends.{IsEndOf}
 use Rattle.fsl_graph.specs.Positions.{Position, Holder}
 use Rattle.fsl_graph.specs.Positions.{Holder as holder}
@@ -38,6 +42,21 @@ KnownBefore = (g : Graph) (done : List ℕ) (e : ℕ) (x : Event) (a : ℕ) → 
 abbrev pub OwnEventKnown : Type 0
 OwnEventKnown = (g : Graph) (done : List ℕ) (e : ℕ) (x : Event) → Comes g done e x → Position g (e ∷ done) (holder.Plain x.thread) e
 
+-- so this event races with none of it
+abbrev pub KnownRacesNot : Type 0
+KnownRacesNot = (g : Graph) (done : List ℕ) (e : ℕ) (x : Event) (a : ℕ) → Comes g done e x → Position g done (holder.Plain x.thread) a → IsRace g a e → ⊥
+
+-- a message is one of a write that is done; the others are there from the start
+abbrev pub IsPast : List ℕ → Holder → Type 0
+IsPast done (holder.Message w part) = In w done
+IsPast done (holder.Plain t) = Unit {0}
+IsPast done (holder.Up t) = Unit {0}
+IsPast done (holder.Down t) = Unit {0}
+
+-- nobody knows of what isn't done
+abbrev pub KnownIsDone : Type 0
+KnownIsDone = (g : Graph) (done : List ℕ) (h : Holder) (a : ℕ) → IsClosed (Edge g) done → IsPast done h → Position g done h a → In a done
+
 -- ---- threads
 
 -- a Fork tells the children what their parent knows
@@ -49,6 +68,11 @@ ForkTells = (g : Graph) (done : List ℕ) (e : ℕ) (x : Event) (children : List
 abbrev pub JoinTells : Type 0
 JoinTells = (g : Graph) (done : List ℕ) (e : ℕ) (x : Event) (results : List Ended) (t d : ℕ) (v : ℤ) → Comes g done e x
     → x.label ≡ label.Join results → In t (map thread_of results) → IsEndOf g t d v → Tells g (e ∷ done) (holder.Plain t) (holder.Plain x.thread)
+
+-- in an execution, each child that it waited for has ended
+abbrev pub AwaitTells : Type 0
+AwaitTells = (p : Program) (g : Graph) (last : ℕ → Config) → IsExecution p g last → (done : List ℕ) (e : ℕ) (x : Event) (t : ℕ) (v : ℤ) → Comes g done e x
+    → Awaits g e t v → Tells g (e ∷ done) (holder.Plain t) (holder.Plain x.thread)
 
 -- ---- writes
 
