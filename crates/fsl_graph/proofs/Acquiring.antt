@@ -1,12 +1,12 @@
 -- Where nothing acquires, happens-before is sequenced-before.
-use Rattle.std.proofs.Common.{◌≡◌, ℕ, zero, suc, Bool, true, false, not, ◌&&◌, List, [], ◌∷◌, Option, Some, None, slice_get, ℤ, subst, sym, refl, ap, ◌∙◌}
+use Rattle.std.proofs.Common.{◌≡◌, ℕ, zero, suc, Bool, true, false, not, ◌&&◌, List, [], ◌∷◌, Some, None, slice_get, ℤ, subst, sym}
 use Rattle.std.proofs.lemmas.Bool.{and_parts, not-true}
 use Rattle.fsl_core.specs.declared.label.Label.{Label}
 use Rattle.fsl_core.specs.declared.label.Label.TheVariants as label
 use Rattle.fsl_core.specs.declared.mode.Mode.{Mode}
 use Rattle.fsl_graph.specs.declared.event.Event.{Event}
 use Rattle.fsl_graph.specs.declared.graph.Graph.{Graph}
-use Rattle.fsl_graph.specs.Events.{Is, acquires, read_by, Touches, Reads, Fences}
+use Rattle.fsl_graph.specs.Events.{acquires, read_by, Touches}
 use Rattle.fsl_graph.specs.Sequenced.{Path, SbEdge, Sb}
 use Rattle.fsl_graph.specs.Sequenced.Path.{one}
 use Rattle.fsl_graph.specs.Happens.{Hb, HbEdge, AcquirePoint}

@@ -1,19 +1,17 @@
 -- Happens-before goes along sequenced-before and reads-from.
-use Rattle.std.proofs.Common.{◌≡◌, ℕ, ◌⊎◌, inl, inr, List, [], ◌∷◌, ◌++◌, subst, sym, refl}
-use Rattle.fsl_graph.specs.declared.event.Event.{Event}
+use Rattle.std.proofs.Common.{◌≡◌, ℕ, ◌⊎◌, inl, inr, List, [], subst, sym, refl}
 use Rattle.fsl_graph.specs.declared.graph.Graph.{Graph}
-use Rattle.fsl_graph.specs.Events.{Is}
-use Rattle.fsl_graph.specs.Sequenced.{Relation, Path, In, Rf, Edge, Po}
-use Rattle.fsl_graph.specs.Sequenced.Path.{one, more}
+use Rattle.fsl_graph.specs.Sequenced.{Path, Edge, Po}
+use Rattle.fsl_graph.specs.Sequenced.Path.{one}
 use Rattle.fsl_graph.specs.Sequenced.SbEdge.{by_order}
 use Rattle.fsl_graph.specs.Sequenced.Edge.{by_sb as along_sb, by_rf as along_rf}
-use Rattle.fsl_graph.specs.Happens.{InSequence, ReleasePoint, AcquirePoint, Sw, HbEdge, Hb}
+use Rattle.fsl_graph.specs.Happens.{InSequence, ReleasePoint, AcquirePoint, Sw, HbEdge}
 use Rattle.fsl_graph.specs.Happens.InSequence.{head, next}
 use Rattle.fsl_graph.specs.Happens.ReleasePoint.{at_write, at_fence as release_fence}
 use Rattle.fsl_graph.specs.Happens.AcquirePoint.{at_read, at_fence as acquire_fence}
 use Rattle.fsl_graph.specs.Happens.HbEdge.{by_sb, by_sw}
-use Rattle.fsl_graph.specs.Orders.{IsClosed, IsForwardFrom, Comes, HbAlongEdges, ClosedUnderHb, PrefixesClosed, NextComes}
-use Rattle.fsl_graph.proofs.Paths.{path_append, path_map, path_behind, path_before, closed_path, closed_more, forward_from}
+use Rattle.fsl_graph.specs.Orders.{IsForwardFrom, HbAlongEdges, ClosedUnderHb, PrefixesClosed, NextComes}
+use Rattle.fsl_graph.proofs.Paths.{path_map, path_behind, path_before, closed_path, closed_more, forward_from}
 
 by_po : (g : Graph) (a b : ℕ) → Po g a b → Path (Edge g) a b
 by_po g a b p = one (along_sb (by_order p))
@@ -48,7 +46,7 @@ closed_under_hb g done c a b h i = closed_path done c a b (hb_along_edges g a b 
 pub prefixes_closed : PrefixesClosed
 prefixes_closed g order front back f e =
     let k = subst (λ (xs : List ℕ). IsForwardFrom (Edge g) [] xs) e f in
-    closed_under_hb g front (λ a b r i. elim (forward_from (Edge g) [] front back k a b r i) [ | inl n ↦ elim n [ ] | inr j ↦ j ])
+    closed_under_hb g front (λ a b r i. elim (forward_from (Edge g) [] front back k a b r i) [ inl n ↦ elim n [ ] | inr j ↦ j ])
 
 pub next_comes : NextComes
 next_comes g done rest e x c f i =

@@ -1,12 +1,10 @@
 -- That a part of a graph is closed under a relation, by a test over its events; what is outside then happens
 -- before nothing in it.
-use Rattle.std.proofs.Common.{◌≡◌, ◌<◌, ◌≤◌, ℕ, zero, suc, Bool, true, false, not, ◌&&◌, ◌||◌, nat_lt, ltb, ◌⊎◌, inl, inr, List, [], ◌∷◌, length, Option, Some, None, slice_get, subst, sym, refl, ap, ◌∙◌, arith}
-use Rattle.std.specs.Bool.{Decides}
+use Rattle.std.proofs.Common.{◌≡◌, ◌<◌, ℕ, zero, suc, Bool, true, not, ◌&&◌, ◌||◌, nat_lt, inl, inr, List, [], ◌∷◌, length, Option, Some, None, slice_get, subst, sym, ap, ◌∙◌, arith}
 use Rattle.std.proofs.lemmas.Bool.{or_cases, and_parts, cases_eq, not-true, ltb-true}
 use Rattle.fsl_graph.specs.declared.event.Event.{Event}
 use Rattle.fsl_graph.specs.declared.graph.Graph.{Graph}
-use Rattle.fsl_graph.specs.Events.{Is}
-use Rattle.fsl_graph.specs.Sequenced.{Relation, Path, In, SbEdge, Rf, Edge}
+use Rattle.fsl_graph.specs.Sequenced.{In, SbEdge, Edge}
 use Rattle.fsl_graph.specs.Sequenced.Edge.{by_sb, by_rf}
 use Rattle.fsl_graph.specs.Edges.{is_in, sb_edge, edge}
 use Rattle.fsl_graph.specs.Orders.{IsClosed}

@@ -1,21 +1,20 @@
 -- The tests of edges answer true exactly where there is one.
-use Rattle.std.proofs.Common.{◌≡◌, ◌<◌, ℕ, Bool, true, false, ◌==◌, ◌&&◌, ◌||◌, nat_lt, ltb, eqb, ◌⊎◌, inl, inr, List, [], ◌∷◌, Option, Some, None, map, slice_get, ℤ, subst, sym, refl, ap, ◌∙◌}
-use Rattle.std.specs.Bool.{Decides}
-use Rattle.std.proofs.lemmas.Bool.{or_cases, or_left, or_right, and_parts, and_from, eqb-true, eq-eqb, ltb-true, lt-ltb, cases_Bool}
+use Rattle.std.proofs.Common.{◌≡◌, ℕ, true, false, ◌==◌, ◌&&◌, ◌||◌, nat_lt, inl, inr, List, [], ◌∷◌, Option, Some, None, map, slice_get, ℤ, subst, sym, refl, ap}
+use Rattle.std.proofs.lemmas.Bool.{or_cases, or_left, or_right, and_parts, and_from, eqb-true, eq-eqb, ltb-true, lt-ltb}
 use Rattle.fsl_core.specs.declared.label.Ended.{Ended}
 use Rattle.fsl_core.specs.declared.label.Label.{Label}
 use Rattle.fsl_core.specs.declared.label.Label.TheVariants as label
 use Rattle.fsl_graph.specs.declared.event.Event.{Event}
 use Rattle.fsl_graph.specs.declared.graph.Graph.{Graph}
 use Rattle.fsl_graph.specs.Events.{Is}
-use Rattle.fsl_graph.specs.Sequenced.{In, thread_of, Po, Forks, Joins, SbEdge, Rf, Edge}
+use Rattle.fsl_graph.specs.Sequenced.{In, thread_of, SbEdge, Rf, Edge}
 use Rattle.fsl_graph.specs.Sequenced.SbEdge.{by_order, by_fork, by_join}
 use Rattle.fsl_graph.specs.Sequenced.Edge.{by_sb, by_rf}
 use Rattle.fsl_graph.specs.Edges.{is_in, starts, awaits, is_end, leads, both_lead, sb_edge, is_number, is_source, edge, SbEdgesDecided, EdgesDecided}
 
 pub is_in_true : (x : ℕ) (ys : List ℕ) → is_in x ys ≡ true → In x ys
 is_in_true x [] h = absurd (let f : false ≡ true = h in cc)
-is_in_true x (y ∷ ys) h = elim (or_cases (x == y) (is_in x ys) h) [ | inl e ↦ inl (eqb-true x y e) | inr i ↦ inr (is_in_true x ys i) ]
+is_in_true x (y ∷ ys) h = elim (or_cases (x == y) (is_in x ys) h) [ inl e ↦ inl (eqb-true x y e) | inr i ↦ inr (is_in_true x ys i) ]
 
 pub in_is_in : (x : ℕ) (ys : List ℕ) → In x ys → is_in x ys ≡ true
 in_is_in x [] i = elim i [ ]

@@ -1,6 +1,5 @@
 -- The last event of a thread that has returned is its End.
-use Rattle.std.proofs.Common.{◌≡◌, ◌<◌, ◌≤◌, ◌+◌, ℕ, zero, suc, Bool, true, false, if◌then◌else◌, ◌==◌, ◌⊎◌, inl, inr, List, [], ◌∷◌, length, Option, Some, None, slice_get, ℤ, subst, sym, refl, ap, ◌∙◌, arith}
-use Rattle.std.proofs.lemmas.Bool.{cases_Bool, eqb-true, eq-eqb}
+use Rattle.std.proofs.Common.{◌≡◌, ℕ, ◌⊎◌, inl, inr, List, [], Some, None, slice_get, ℤ, subst, sym, refl, ap, ◌∙◌, arith}
 use Rattle.std.proofs.lemmas.Option.{slice_get_cases}
 use Rattle.fsl_core.specs.declared.label.Label.{Label}
 use Rattle.fsl_core.specs.declared.label.Label.TheVariants as label
@@ -8,17 +7,15 @@ use Rattle.fsl_core.specs.declared.need.Need.TheVariants as need
 use Rattle.fsl_core.specs.declared.need.Reply.{Reply}
 use Rattle.fsl_core.specs.declared.need.Reply.TheVariants as reply
 use Rattle.fsl_core.specs.declared.program.Program.{Program}
-use Rattle.fsl_core.specs.Moves.{Config, running, joining, returned, halted, failed, Moved, Move, showing, ending, move_of, moved, need_of, start_of, entered}
+use Rattle.fsl_core.specs.Moves.{Config, running, joining, returned, halted, failed, Moved, Move, showing, moved, need_of, start_of, entered}
 use Rattle.fsl_graph.specs.declared.event.Event.{Event}
 use Rattle.fsl_graph.specs.declared.graph.Graph.{Graph}
-use Rattle.fsl_graph.specs.declared.graph.Thread.{Thread}
 use Rattle.fsl_graph.specs.Events.{Is}
-use Rattle.fsl_graph.specs.Sequenced.{In}
-use Rattle.fsl_graph.specs.Execution.{Runs, numbered_of, events_of, reply_of, IsExecution, IsThread, Awaits}
+use Rattle.fsl_graph.specs.Execution.{Runs, events_of, reply_of}
 use Rattle.fsl_graph.specs.Execution.Runs.{stands, silent, shows}
 use Rattle.fsl_graph.specs.Ends.{IsEndOf, JoinedEnded}
 use Rattle.fsl_graph.proofs.Numbered.{EndsIn, ends_in, of_thread, thread_of_number, greatest}
-use Rattle.fsl_graph.proofs.Returning.{Stays, Kind, move_kind, running_stays, joining_stays, halted_stays, failed_stays, start_stays}
+use Rattle.fsl_graph.proofs.Returning.{Stays, move_kind, running_stays, joining_stays, halted_stays, failed_stays, start_stays}
 
 -- event d is an End with v
 pub record IsEnd (g : Graph) (d : ℕ) (v : ℤ) : Type 0 where
@@ -95,7 +92,7 @@ joined_ended p g last x e t v a =
     elim (slice_get_cases g.threads t).1 [
       | inl h ↦
           let r = run_ends p g (start_of p h.0.proc h.0.args) (last t) h.0.moves (events_of g t) v (start_stays (entered (slice_get p.procs h.0.proc) h.0.args None))
-              (x.moves t h.0 h.2) j.1 in
+          (x.moves t h.0 h.2) j.1 in
           (r.0, end_of g t r.0 v r.1 r.2)
       | inr h ↦ absurd (let l = h.0 in let k = j.0 in omega arith)
     ]

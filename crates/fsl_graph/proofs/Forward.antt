@@ -1,18 +1,18 @@
 -- Each consistent acyclic graph has a forward order.
-use Rattle.std.proofs.Common.{◌≡◌, ◌<◌, ◌≤◌, ℕ, zero, suc, ◌⊎◌, inl, inr, List, [], ◌∷◌, length, subst, sym, refl, arith}
+use Rattle.std.proofs.Common.{◌<◌, ℕ, zero, suc, inl, inr, List, [], ◌∷◌, length, arith}
 use Rattle.std.proofs.lemmas.Option.{slice_get_within}
 use Rattle.std.proofs.lemmas.Bool.{cases_eq}
 use Rattle.fsl_graph.specs.declared.event.Event.{Event}
 use Rattle.fsl_graph.specs.declared.graph.Graph.{Graph}
 use Rattle.fsl_graph.specs.Events.{Is}
-use Rattle.fsl_graph.specs.Sequenced.{In, SbEdge, Edge, IsAcyclic}
+use Rattle.fsl_graph.specs.Sequenced.{In, SbEdge, Edge}
 use Rattle.fsl_graph.specs.Sequenced.SbEdge.{by_order, by_fork, by_join}
 use Rattle.fsl_graph.specs.Sequenced.Edge.{by_sb, by_rf}
 use Rattle.fsl_graph.specs.Consistent.{IsConsistent}
 use Rattle.fsl_graph.specs.Edges.{edge}
 use Rattle.fsl_graph.specs.Orders.{ForwardOrder}
 use Rattle.fsl_graph.proofs.Edges.{edges_decided}
-use Rattle.fsl_graph.proofs.Sorted.{IsLeft, IsSorted, sorted}
+use Rattle.fsl_graph.proofs.Sorted.{IsLeft, sorted}
 
 -- the numbers below n
 below : ℕ → List ℕ
@@ -22,7 +22,7 @@ below (suc n) = n ∷ below n
 in_below : (n e : ℕ) → e < n → In e (below n)
 unfolding below
 in_below zero e h = absurd (omega arith)
-in_below (suc n) e h = elim (cases_eq e n) [ | inl s ↦ inl s | inr d ↦ inr (in_below n e (omega arith)) ]
+in_below (suc n) e h = elim (cases_eq e n) [ inl s ↦ inl s | inr d ↦ inr (in_below n e (omega arith)) ]
 
 below_in : (n e : ℕ) → In e (below n) → e < n
 unfolding below

@@ -1,5 +1,5 @@
 -- The events of a thread by their numbers: which they are, and that the last one is the greatest.
-use Rattle.std.proofs.Common.{◌≡◌, ◌<◌, ◌≤◌, ◌+◌, ℕ, zero, suc, Bool, true, false, if◌then◌else◌, ◌==◌, ◌⊎◌, inl, inr, List, [], ◌∷◌, Option, Some, None, slice_get, subst, sym, refl, ap, ◌∙◌, arith}
+use Rattle.std.proofs.Common.{◌≡◌, ◌≤◌, ◌+◌, ℕ, zero, suc, Bool, if◌then◌else◌, ◌==◌, ◌⊎◌, inl, inr, List, [], ◌∷◌, Some, None, slice_get, subst, sym, refl, ap, ◌∙◌, arith}
 use Rattle.std.proofs.lemmas.Bool.{cases_Bool, eqb-true, eq-eqb}
 use Rattle.fsl_graph.specs.declared.event.Event.{Event}
 use Rattle.fsl_graph.specs.Sequenced.{In}
@@ -81,4 +81,3 @@ greatest t n (x ∷ xs) d b h i = elim (cases_Bool (x.thread == t)) [
       (subst (λ (c : Bool). EndsIn d (after c n (numbered_of t (suc n) xs))) a h)
       (subst (λ (c : Bool). In b (after c n (numbered_of t (suc n) xs))) a i)
 ]
-

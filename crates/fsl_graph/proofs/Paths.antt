@@ -1,5 +1,5 @@
 -- Paths along a relation, put together and followed.
-use Rattle.std.proofs.Common.{◌≡◌, ℕ, ◌⊎◌, inl, inr, List, [], ◌∷◌, ◌++◌, subst, sym, refl}
+use Rattle.std.proofs.Common.{◌≡◌, ℕ, ◌⊎◌, inl, inr, List, [], ◌∷◌, ◌++◌, subst, sym}
 use Rattle.fsl_graph.specs.Sequenced.{Relation, Path, In}
 use Rattle.fsl_graph.specs.Sequenced.Path.{one, more}
 use Rattle.fsl_graph.specs.Orders.{IsClosed, IsForwardFrom}
@@ -43,7 +43,7 @@ in_right x (z ∷ xs) ys i = inr (in_right x xs ys i)
 pub in_parts : (x : ℕ) (xs ys : List ℕ) → In x (xs ++ ys) → In x xs ⊎ In x ys
 in_parts x [] ys i = inr i
 in_parts x (z ∷ xs) ys (inl e) = inl (inl e)
-in_parts x (z ∷ xs) ys (inr i) = elim (in_parts x xs ys i) [ | inl l ↦ inl (inr l) | inr r ↦ inr r ]
+in_parts x (z ∷ xs) ys (inr i) = elim (in_parts x xs ys i) [ inl l ↦ inl (inr l) | inr r ↦ inr r ]
 
 -- whatever leads to an event of the part that goes forward is done, or stands in it too
 pub forward_from : (R : Relation) (done front back : List ℕ) → IsForwardFrom R done (front ++ back) → (a b : ℕ) → R a b → In b front → In a done ⊎ In a front

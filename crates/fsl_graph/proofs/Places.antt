@@ -1,15 +1,14 @@
 -- Places in modification order: one each, and no two writes of a location have the same.
-use Rattle.std.proofs.Common.{◌≡◌, ◌<◌, ℕ, suc, ◌⊎◌, inl, inr, Option, Some, subst₂, slice_get, ℤ, ◌<ℤ◌, subst, sym, refl, arith, ap, ◌∙◌}
+use Rattle.std.proofs.Common.{◌≡◌, ℕ, suc, inl, inr, Option, Some, subst₂, ℤ, subst, sym, arith, ap, ◌∙◌}
 use Rattle.std.proofs.lemmas.Bool.{cases_order}
 use Rattle.std.proofs.lemmas.Int.{ints}
-use Rattle.fsl_core.specs.declared.label.Label.TheVariants as label
 use Rattle.fsl_core.specs.declared.mode.Mode.{Mode}
 use Rattle.fsl_graph.specs.declared.event.Event.{Event}
 use Rattle.fsl_graph.specs.declared.graph.Graph.{Graph}
 use Rattle.fsl_graph.specs.declared.graph.Order.{Order}
-use Rattle.fsl_graph.specs.Events.{Is, Reads, Writes, Updates, read_by, written_by, Touches}
+use Rattle.fsl_graph.specs.Events.{Reads, Writes, Updates, read_by, written_by}
 use Rattle.fsl_graph.specs.Sequenced.{Rf}
-use Rattle.fsl_graph.specs.Places.{IsEntry, Listed, WritesAt, ReadsAt, SourceAt}
+use Rattle.fsl_graph.specs.Places.{IsEntry, Listed, SourceAt}
 use Rattle.fsl_graph.specs.Consistent.{IsConsistent, HasOrders}
 use Rattle.fsl_graph.specs.Orders.{OneUpdate}
 
@@ -52,8 +51,8 @@ update_places g c w e k m l old new u r h =
     let same : u.event ≡ r.reader = cc in
     let from : u.event.from ≡ Some w = ap (λ (x : Event). x.from) same ∙ r.source in
     let n = c.atomic e k p.0 m l old new u
-        (record { mode = m; value = old; reads = reads_old u; source = subst (λ (o : Option ℕ). SourceAt g l o k) (sym from) h })
-        (record { mode = m; value = new; writes = writes_new u; listed = p.1 }) in
+    (record { mode = m; value = old; reads = reads_old u; source = subst (λ (o : Option ℕ). SourceAt g l o k) (sym from) h })
+    (record { mode = m; value = new; writes = writes_new u; listed = p.1 }) in
     subst (λ (n : ℕ). Listed g l e n) n p.1
 
 -- the location of a source is that of its reads

@@ -1,9 +1,9 @@
 -- Which members of a list lead to one another, as a test, and the first of some: one that no other leads to.
-use Rattle.std.proofs.Common.{◌≡◌, ◌<◌, ◌≤◌, ℕ, suc, Bool, true, false, ◌&&◌, ◌||◌, ◌⊎◌, inl, inr, List, [], ◌∷◌, length, subst, sym, refl, ◌==◌, cond, arith}
+use Rattle.std.proofs.Common.{◌≡◌, ℕ, Bool, true, ◌&&◌, ◌||◌, inl, inr, List, [], ◌∷◌, subst, refl}
 use Rattle.std.specs.Bool.{Decides}
-use Rattle.std.proofs.lemmas.Bool.{or_cases, or_left, or_right, and_parts, and_from, cases_Bool, cases_eq, cases_lt}
+use Rattle.std.proofs.lemmas.Bool.{or_cases, or_left, or_right, and_parts, and_from, cases_Bool}
 use Rattle.fsl_graph.specs.Sequenced.{Relation, Path, In}
-use Rattle.fsl_graph.specs.Sequenced.Path.{one, more}
+use Rattle.fsl_graph.specs.Sequenced.Path.{one}
 use Rattle.fsl_graph.proofs.Paths.{path_append}
 
 -- a path from a to b whose inner nodes are among these
@@ -71,25 +71,34 @@ pub record IsFirst (e : ℕ → ℕ → Bool) (vs xs : List ℕ) (m : ℕ) : Typ
 -- where nothing leads to itself, some member of a list is its first
 pub first_of : (e : ℕ → ℕ → Bool) (vs : List ℕ) → ((a : ℕ) → reach e vs a a ≡ true → ⊥)
     → (x : ℕ) (xs : List ℕ) → ((y : ℕ) → In y (x ∷ xs) → In y vs) → (m : ℕ) × IsFirst e vs (x ∷ xs) m
-first_of e vs n x [] all = (x, record {
-  among = inl refl;
-  first = λ y i h. elim i [ | inl s ↦ n x (subst (λ (z : ℕ). reach e vs z x ≡ true) s h) | inr j ↦ elim j [ ] ];
-})
+first_of e vs n x [] all = (
+  x,
+  record {
+    among = inl refl;
+    first = λ y i h. elim i [ inl s ↦ n x (subst (λ (z : ℕ). reach e vs z x ≡ true) s h) | inr j ↦ elim j [ ] ];
+  },
+)
 first_of e vs n x (z ∷ xs) all =
     let p = first_of e vs n z xs (λ y i. all y (inr i)) in
     elim (cases_Bool (reach e vs x p.0)) [
-      | inl t ↦ (x, record {
+      | inl t ↦ (
+        x,
+        record {
           among = inl refl;
           first = λ y i h. elim i [
             | inl s ↦ n x (subst (λ (z : ℕ). reach e vs z x ≡ true) s h)
             | inr j ↦ p.1.first y j (reach_more e vs y x p.0 (all x (inl refl)) h t)
           ];
-        })
-      | inr f ↦ (p.0, record {
+        },
+      )
+      | inr f ↦ (
+        p.0,
+        record {
           among = inr p.1.among;
           first = λ y i h. elim i [
             | inl s ↦ absurd (let k = subst (λ (z : ℕ). reach e vs z p.0 ≡ true) s h in let g = f in cc)
             | inr j ↦ p.1.first y j h
           ];
-        })
+        },
+      )
     ]

@@ -1,16 +1,15 @@
 -- A read behind all writes of its location reads the last of them, by coherence.
-use Rattle.std.proofs.Common.{◌≡◌, ◌<◌, ◌≤◌, ℕ, suc, ◌⊎◌, inl, inr, List, [], ◌∷◌, Option, Some, None, ℤ, subst, subst₂, sym, refl, ap, ◌∙◌, arith}
+use Rattle.std.proofs.Common.{◌≡◌, ◌<◌, ◌≤◌, ℕ, inl, inr, Option, Some, None, ℤ, subst, sym, refl, ap, ◌∙◌, arith}
 use Rattle.fsl_core.specs.declared.mode.Mode.{Mode}
 use Rattle.fsl_graph.specs.declared.event.Event.{Event}
 use Rattle.fsl_graph.specs.declared.graph.Graph.{Graph}
-use Rattle.fsl_graph.specs.Events.{Is, Reads, Writes}
-use Rattle.fsl_graph.specs.Sequenced.{In, Rf}
+use Rattle.fsl_graph.specs.Events.{Reads, Writes}
+use Rattle.fsl_graph.specs.Sequenced.{Rf}
 use Rattle.fsl_graph.specs.Sequenced.Edge.{by_rf}
 use Rattle.fsl_graph.specs.Happens.{Hb}
 use Rattle.fsl_graph.specs.Places.{Listed, WritesAt, ReadsAt, SourceAt}
 use Rattle.fsl_graph.specs.Consistent.{IsConsistent}
-use Rattle.fsl_graph.specs.Orders.{Comes}
-use Rattle.fsl_graph.specs.Reading.{IsLast, IsWritten, AllBefore, ReadsLast, ReadHasSource, ReadSeesLast, WriteIsLast, LastStays, OneLast}
+use Rattle.fsl_graph.specs.Reading.{ReadHasSource, ReadSeesLast, WriteIsLast, LastStays, OneLast}
 use Rattle.fsl_graph.proofs.Places.{one_at, source_written}
 
 -- a write has a place

@@ -1,22 +1,18 @@
 -- The move by which a thread returns shows its End, and no other move leads there.
-use Rattle.std.proofs.Common.{◌≡◌, ℕ, zero, suc, Bool, true, false, if◌then◌else◌, ◌⊎◌, inl, inr, List, [], ◌∷◌, Option, Some, None, slice_get, ℤ, pos, ◌+ℤ◌, int_eq, length, subst, sym, refl, ap, ◌∙◌}
+use Rattle.std.proofs.Common.{◌≡◌, ℕ, Bool, true, false, if◌then◌else◌, ◌⊎◌, inl, inr, List, [], ◌∷◌, Option, Some, None, slice_get, ℤ, pos, ◌+ℤ◌, int_eq, refl}
 use Rattle.fsl_core.specs.declared.act.Act.TheOpen.{Act-F}
 use Rattle.fsl_core.specs.declared.act.Act.{Act}
 use Rattle.fsl_core.specs.declared.act.Act.TheViews.{out-Act}
 use Rattle.fsl_core.specs.declared.act.Stmt.{Stmt}
 use Rattle.fsl_core.specs.declared.label.Label.{Label}
-use Rattle.fsl_core.specs.declared.label.Label.TheVariants as label
-use Rattle.fsl_core.specs.declared.mode.AllocKind.{AllocKind}
-use Rattle.fsl_core.specs.declared.mode.AllocKind.TheVariants as kind
 use Rattle.fsl_core.specs.declared.mode.Mode.{Mode}
-use Rattle.fsl_core.specs.declared.need.Need.TheVariants as need
 use Rattle.fsl_core.specs.declared.need.Reply.{Reply}
 use Rattle.fsl_core.specs.declared.need.Reply.TheVariants as reply
 use Rattle.fsl_core.specs.declared.need.Started.{Started}
 use Rattle.fsl_core.specs.declared.program.Proc.{Proc}
 use Rattle.fsl_core.specs.declared.program.Program.{Program}
 use Rattle.fsl_core.specs.Values.{in_range, value_of, holds_of}
-use Rattle.fsl_core.specs.Moves.{Frame, Config, running, joining, returned, halted, failed, Moved, Move, unlabelled, showing, local, halting, given, entered, read_reply, place_reply, threads_reply, results_reply, exchanged, added, allocating, branching, after_assert, ending, returning, entering, calling, forking, with_stmts, act_move, frame_move, move_of, started_at, started_of, arguments_of, kind_at}
+use Rattle.fsl_core.specs.Moves.{Frame, Config, running, joining, returned, halted, failed, Moved, Move, showing, given, entered, read_reply, place_reply, threads_reply, results_reply, added, branching, after_assert, ending, returning, entering, calling, forking, with_stmts, act_move, frame_move, move_of, started_at, started_of, arguments_of}
 
 -- a configuration, what a move leads to, and a move, where no thread has returned
 abbrev pub Stays : Config → Type 0

@@ -1,15 +1,14 @@
 -- The example graphs: where happens-before leads, edge by edge, and where it doesn't, by a part of the graph that
 -- is closed.
-use Rattle.std.proofs.Common.{◌≡◌, ◌<◌, ◌≤◌, ℕ, zero, suc, Bool, true, false, ◌⊎◌, inl, inr, List, [], ◌∷◌, Option, Some, None, slice_get, ℤ, pos, subst, sym, refl, ap, ◌∙◌, arith}
+use Rattle.std.proofs.Common.{◌≡◌, ◌<◌, ℕ, true, false, inl, List, [], ◌∷◌, pos, refl, arith}
 use Rattle.fsl_core.specs.declared.label.Label.TheVariants as label
-use Rattle.fsl_core.specs.declared.mode.Mode.{Mode}
 use Rattle.fsl_core.specs.declared.mode.Mode.TheVariants as mode
 use Rattle.fsl_graph.specs.declared.event.Event.{Event}
 use Rattle.fsl_graph.specs.declared.graph.Graph.{Graph}
-use Rattle.fsl_graph.specs.Events.{Is, Reads, Writes, Updates, Fences}
-use Rattle.fsl_graph.specs.Sequenced.{In, Path, Po, Rf, SbEdge}
+use Rattle.fsl_graph.specs.Events.{Is}
+use Rattle.fsl_graph.specs.Sequenced.{Po}
 use Rattle.fsl_graph.specs.Sequenced.Path.{one, more}
-use Rattle.fsl_graph.specs.Happens.{Hb, HbEdge, Sw}
+use Rattle.fsl_graph.specs.Happens.{Hb, HbEdge}
 use Rattle.fsl_graph.specs.Happens.HbEdge.{by_sb, by_sw}
 use Rattle.fsl_graph.specs.Happens.InSequence.{head, next}
 use Rattle.fsl_graph.specs.Happens.ReleasePoint.{at_write, at_fence as release_fence}
@@ -17,11 +16,11 @@ use Rattle.fsl_graph.specs.Happens.AcquirePoint.{at_read, at_fence as acquire_fe
 use Rattle.fsl_graph.specs.Edges.{is_in, sb_edge, edge}
 use Rattle.fsl_graph.specs.Graphs.{message_passing, relaxed_passing, fenced_passing, sequence_passing, fork_join, store_buffering, load, store, does, reads}
 use Rattle.fsl_graph.specs.Shapes.{MessagePassed, FencesPass, SequencePasses, RelaxedRaces, ForkPasses, JoinPasses, BuffersApart}
-use Rattle.fsl_graph.proofs.Paths.{path_append, closed_path}
+use Rattle.fsl_graph.proofs.Paths.{closed_path}
 use Rattle.fsl_graph.proofs.Along.{closed_under_hb}
 use Rattle.fsl_graph.proofs.Edges.{sb_edges_decided, is_in_true, not_in}
 use Rattle.fsl_graph.proofs.Acquiring.{along_sb}
-use Rattle.fsl_graph.proofs.Closure.{closes, edges_closed, sb_closed, sources_below}
+use Rattle.fsl_graph.proofs.Closure.{closes, edges_closed, sb_closed}
 
 -- an edge of sequenced-before that the test finds
 sb : (g : Graph) (a b : ℕ) → sb_edge g a b ≡ true → HbEdge g a b

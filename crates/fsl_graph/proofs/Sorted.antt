@@ -1,10 +1,10 @@
 -- Members of a list put into a forward order, one first member after the other.
-use Rattle.std.proofs.Common.{◌≡◌, ◌<◌, ◌≤◌, ℕ, zero, suc, Bool, true, false, ◌⊎◌, inl, inr, List, [], ◌∷◌, length, subst, sym, refl, ◌==◌, cond, arith}
+use Rattle.std.proofs.Common.{◌≡◌, ◌<◌, ◌≤◌, ℕ, zero, suc, Bool, ◌⊎◌, inl, inr, List, [], ◌∷◌, length, subst, sym, arith}
 use Rattle.std.specs.Bool.{Decides}
 use Rattle.std.proofs.lemmas.Bool.{cases_eq}
 use Rattle.fsl_graph.specs.Sequenced.{Relation, Path, In}
 use Rattle.fsl_graph.specs.Orders.{IsForwardFrom}
-use Rattle.fsl_graph.proofs.Reach.{reach, reach_edge, reach_path, IsFirst, first_of}
+use Rattle.fsl_graph.proofs.Reach.{reach_edge, reach_path, first_of}
 
 -- x before xs, but where it is m
 abbrev kept : (x m : ℕ) → (x ≡ m) ⊎ (x ≡ m → ⊥) → List ℕ → List ℕ
@@ -75,9 +75,9 @@ left_next R vs done xs m l = record {
   listed = λ y i. l.listed y (without_in m xs y i).0;
   before = λ a b r i. elim (l.before a b r (without_in m xs b i).0) [
     | inl d ↦ inl (inr d)
-    | inr x ↦ elim (cases_eq a m) [ | inl s ↦ inl (inl s) | inr n ↦ inr (in_without m xs a x n) ]
+    | inr x ↦ elim (cases_eq a m) [ inl s ↦ inl (inl s) | inr n ↦ inr (in_without m xs a x n) ]
   ];
-  apart = λ y i d. let p = without_in m xs y i in elim d [ | inl s ↦ p.1 s | inr j ↦ l.apart y p.0 j ];
+  apart = λ y i d. let p = without_in m xs y i in elim d [ inl s ↦ p.1 s | inr j ↦ l.apart y p.0 j ];
 }
 
 -- the first one, and then the others
@@ -85,8 +85,8 @@ sorted_next : (R : Relation) (done xs order : List ℕ) (m : ℕ) → In m xs �
     → IsSorted R (m ∷ done) (without m xs) order → IsSorted R done xs (m ∷ order)
 sorted_next R done xs order m i before fresh s = record {
   forward = (before, fresh, s.forward);
-  every = λ y j. elim (cases_eq y m) [ | inl e ↦ inl e | inr n ↦ inr (s.every y (in_without m xs y j n)) ];
-  only = λ y j. elim j [ | inl e ↦ subst (λ (n : ℕ). In n xs) (sym e) i | inr k ↦ (without_in m xs y (s.only y k)).0 ];
+  every = λ y j. elim (cases_eq y m) [ inl e ↦ inl e | inr n ↦ inr (s.every y (in_without m xs y j n)) ];
+  only = λ y j. elim j [ inl e ↦ subst (λ (n : ℕ). In n xs) (sym e) i | inr k ↦ (without_in m xs y (s.only y k)).0 ];
 }
 
 pub sorted : (R : Relation) (e : ℕ → ℕ → Bool) → ((a b : ℕ) → Decides (e a b) (R a b)) → ((a : ℕ) → Path R a a → ⊥)
@@ -96,7 +96,9 @@ sorted R e d acyclic vs zero done (x ∷ xs) short l = absurd (omega arith)
 sorted R e d acyclic vs (suc n) done (x ∷ xs) short l =
     let p = first_of e vs (λ a h. acyclic a (reach_path R e d vs a a h)) x xs l.listed in
     let less : length (without p.0 (x ∷ xs)) < length (x ∷ xs) = without_less p.0 (x ∷ xs) p.1.among in
-    let rest = sorted R e d acyclic vs n (p.0 ∷ done) (without p.0 (x ∷ xs)) (omega arith) (left_next R vs done (x ∷ xs) p.0 l) in
-    (p.0 ∷ rest.0, sorted_next R done (x ∷ xs) rest.0 p.0 p.1.among
-    (λ a r. elim (l.before a p.0 r p.1.among) [ | inl i ↦ i | inr i ↦ absurd (p.1.first a i (reach_edge e vs a p.0 ((d a p.0).1 r))) ])
-    (l.apart p.0 p.1.among) rest.1)
+    let rest = sorted R e d acyclic vs n (p.0 ∷ done) (without p.0 (x ∷ xs)) (omega arith) (left_next R vs done (x ∷ xs) p.0 l) in (
+      p.0 ∷ rest.0,
+      sorted_next R done (x ∷ xs) rest.0 p.0 p.1.among
+          (λ a r. elim (l.before a p.0 r p.1.among) [ inl i ↦ i | inr i ↦ absurd (p.1.first a i (reach_edge e vs a p.0 ((d a p.0).1 r))) ])
+          (l.apart p.0 p.1.among) rest.1,
+    )

@@ -1,7 +1,6 @@
 -- Small graphs, as examples: what must be ordered by happens-before in them, and what must not. Locations are
 -- 1 and 2, thread 0 starts the others.
-use Rattle.std.specs.Prelude.{ℕ, List, [], ◌∷◌, ◌++◌, Option, Some, None, ℤ, pos}
-use Rattle.fsl_core.specs.declared.label.Ended.{Ended}
+use Rattle.std.specs.Prelude.{ℕ, List, [], ◌∷◌, ◌++◌, Some, None, pos}
 use Rattle.fsl_core.specs.declared.label.Label.{Label}
 use Rattle.fsl_core.specs.declared.label.Label.TheVariants as label
 use Rattle.fsl_core.specs.declared.mode.AllocKind.TheVariants as kind

@@ -1,5 +1,4 @@
 -- What must be ordered by happens-before in the example graphs, and what must not.
-use Rattle.std.specs.Prelude.{ℕ, ◌≡◌}
 use Rattle.fsl_graph.specs.Happens.{Hb}
 use Rattle.fsl_graph.specs.Safe.{IsRace}
 use Rattle.fsl_graph.specs.Graphs.{message_passing, relaxed_passing, fenced_passing, sequence_passing, fork_join, store_buffering}

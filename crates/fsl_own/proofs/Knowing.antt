@@ -1,42 +1,51 @@
 -- The laws of positions. Two facts carry them: what a thread knows of happens before its next event, and what
 -- it knows of after that event is this event or happened before it.
-use Rattle.std.proofs.Common.{◌≡◌, ◌<◌, ◌≤◌, ℕ, suc, true, ◌⊎◌, inl, inr, List, [], ◌∷◌, Some, None, map, ℤ, subst, sym, refl, ap, ◌∙◌, arith}
+use Rattle.std.proofs.Common.{◌≡◌, ℕ, inl, inr, List, ◌∷◌, subst, sym, refl}
 use Rattle.std.proofs.lemmas.Bool.{cases_order}
-use Rattle.fsl_core.specs.declared.label.Ended.{Ended}
-use Rattle.fsl_core.specs.declared.label.Label.TheVariants as label
-use Rattle.fsl_core.specs.declared.mode.Mode.{Mode}
 use Rattle.fsl_graph.specs.declared.event.Event.{Event}
 use Rattle.fsl_graph.specs.declared.graph.Graph.{Graph}
-use Rattle.fsl_graph.specs.Events.{Is, is_atomic, acquires, releases, Reads, Writes, Updates, Fences, read_by, written_by, Touches}
-use Rattle.fsl_graph.specs.Sequenced.{In, Path, Po, Rf, Edge, thread_of}
+use Rattle.fsl_graph.specs.Events.{Is}
+use Rattle.fsl_graph.specs.Sequenced.{In, Po, Edge}
 use Rattle.fsl_graph.specs.Sequenced.Path.{one}
-use Rattle.fsl_graph.specs.Sequenced.SbEdge.{by_order, by_fork as fork_edge, by_join}
+use Rattle.fsl_graph.specs.Sequenced.SbEdge.{by_order, by_fork as fork_edge}
 use Rattle.fsl_graph.specs.Sequenced.Edge.{by_sb as along_sb, by_rf as along_rf}
-use Rattle.fsl_graph.specs.Happens.{Hb, HbEdge, InSequence, Sw}
-use Rattle.fsl_graph.specs.Happens.HbEdge.{by_sb, by_sw}
-use Rattle.fsl_graph.specs.Happens.InSequence.{head, next}
-use Rattle.fsl_graph.specs.Happens.ReleasePoint.{at_write, at_fence as release_fence}
-use Rattle.fsl_graph.specs.Happens.AcquirePoint.{at_read, at_fence as acquire_fence}
-use Rattle.fsl_graph.specs.Execution.{Starts}
+use Rattle.fsl_graph.specs.Happens.{Hb}
+use Rattle.fsl_graph.specs.Happens.HbEdge.{by_sb}
 use Rattle.fsl_graph.specs.Orders.{Comes, IsClosed}
-use Rattle.fsl_graph.specs.Ends.{IsEndOf}
-use Rattle.fsl_graph.specs.Positions.{Position, Holder, IsSeen, IsFenced, IsSent, IsGot, Reaches, StandsFor}
+use Rattle.fsl_graph.specs.Positions.{Position, IsSent, Reaches, StandsFor}
 use Rattle.fsl_graph.specs.Positions.{Holder as holder}
 use Rattle.fsl_graph.specs.Positions.StandsFor.{by_event, by_fork}
-use Rattle.fsl_graph.proofs.Paths.{path_append, path_behind, closed_path}
+use Rattle.fsl_graph.proofs.Paths.{path_behind, closed_path}
 use Rattle.fsl_graph.proofs.Along.{along_sequence, along_release, closed_under_hb}
-use Rattle.fsl_own.specs.Knowledge.{PositionsGrow, MessagesStay, KnownBefore, OwnEventKnown, KnownRacesNot, KnownIsDone, ForkTells, JoinTells, ReleaseWriteTells, AtomicWriteTells, UpdateTells, ReleaseFenceTells, AcquireFenceTells, AcquiringReadTells, AtomicReadTells}
+use Rattle.fsl_own.specs.Knowledge.{PositionsGrow, MessagesStay, KnownBefore, OwnEventKnown, KnownRacesNot, KnownIsDone}
 
 -- ---- growth
 
 pub positions_grow : PositionsGrow
 positions_grow g done e (holder.Plain t) a s = record { last = s.last; past = inr s.past; stands = s.stands; reaches = s.reaches }
 positions_grow g done e (holder.Up t) a s = record {
-  fence = s.fence; past = inr s.past; event = s.event; is = s.is; thread = s.thread; mode = s.mode; fences = s.fences; releases = s.releases; reaches = s.reaches;
+  fence = s.fence;
+  past = inr s.past;
+  event = s.event;
+  is = s.is;
+  thread = s.thread;
+  mode = s.mode;
+  fences = s.fences;
+  releases = s.releases;
+  reaches = s.reaches;
 }
 positions_grow g done e (holder.Down t) a s = record {
-  read = s.read; past = inr s.past; mode = s.mode; loc = s.loc; value = s.value; reads = s.reads; thread = s.thread; atomic = s.atomic;
-  source = s.source; from = s.from; sent = s.sent;
+  read = s.read;
+  past = inr s.past;
+  mode = s.mode;
+  loc = s.loc;
+  value = s.value;
+  reads = s.reads;
+  thread = s.thread;
+  atomic = s.atomic;
+  source = s.source;
+  from = s.from;
+  sent = s.sent;
 }
 positions_grow g done e (holder.Message w part) a s = s
 
@@ -87,8 +96,8 @@ reached_done g done a b c (inr h) i = closed_under_hb g done c a b h i
 
 sent_done : (g : Graph) (done : List ℕ) (w a : ℕ) → IsClosed (Edge g) done → In w done → IsSent g w a → In a done
 sent_done g done w a c i s =
-    let first : In s.head done = elim (along_sequence g s.head w s.sequence) [ | inl e ↦ subst (λ (n : ℕ). In n done) (sym e) i | inr p ↦ closed_path done c s.head w p i ] in
-    let point : In s.point done = elim (along_release g s.point s.head s.release) [ | inl e ↦ subst (λ (n : ℕ). In n done) (sym e) first | inr p ↦ closed_path done c s.point s.head p first ] in
+    let first : In s.head done = elim (along_sequence g s.head w s.sequence) [ inl e ↦ subst (λ (n : ℕ). In n done) (sym e) i | inr p ↦ closed_path done c s.head w p i ] in
+    let point : In s.point done = elim (along_release g s.point s.head s.release) [ inl e ↦ subst (λ (n : ℕ). In n done) (sym e) first | inr p ↦ closed_path done c s.point s.head p first ] in
     reached_done g done a s.point c s.reaches point
 
 pub known_is_done : KnownIsDone

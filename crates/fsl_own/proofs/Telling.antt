@@ -1,26 +1,24 @@
 -- What each kind of event tells, by what happens before it.
-use Rattle.std.proofs.Common.{◌≡◌, ◌<◌, ◌≤◌, ℕ, zero, suc, true, ◌⊎◌, inl, inr, List, [], ◌∷◌, Some, None, slice_get, map, ℤ, subst, sym, refl, ap, ◌∙◌, arith}
+use Rattle.std.proofs.Common.{◌≡◌, ℕ, zero, suc, inl, inr, List, [], ◌∷◌, Some, None, slice_get, map, ℤ, subst, sym, refl, ap, ◌∙◌, arith}
 use Rattle.std.proofs.lemmas.Bool.{cases_eq}
 use Rattle.fsl_core.specs.declared.label.Ended.{Ended}
-use Rattle.fsl_core.specs.declared.label.Label.TheVariants as label
 use Rattle.fsl_core.specs.declared.mode.Mode.{Mode}
 use Rattle.fsl_graph.specs.declared.event.Event.{Event}
 use Rattle.fsl_graph.specs.declared.graph.Graph.{Graph}
-use Rattle.fsl_graph.specs.Events.{Is, is_atomic, acquires, releases, Reads, Writes, Updates, Fences, read_by, written_by, Touch, Touches}
-use Rattle.fsl_graph.specs.Sequenced.{In, Path, Po, Rf, thread_of}
+use Rattle.fsl_graph.specs.Events.{Reads, Writes, Fences, read_by, written_by, Touches}
+use Rattle.fsl_graph.specs.Sequenced.{In, Rf, thread_of}
 use Rattle.fsl_graph.specs.Sequenced.Path.{one}
 use Rattle.fsl_graph.specs.Sequenced.SbEdge.{by_order, by_fork as fork_edge, by_join as join_edge}
-use Rattle.fsl_graph.specs.Happens.{Hb, InSequence, AcquirePoint, Sw}
+use Rattle.fsl_graph.specs.Happens.{Hb, AcquirePoint}
 use Rattle.fsl_graph.specs.Happens.HbEdge.{by_sb, by_sw}
 use Rattle.fsl_graph.specs.Happens.InSequence.{head, next}
 use Rattle.fsl_graph.specs.Happens.ReleasePoint.{at_write, at_fence as release_fence}
 use Rattle.fsl_graph.specs.Happens.AcquirePoint.{at_read, at_fence as acquire_fence}
-use Rattle.fsl_graph.specs.Orders.{Comes}
 use Rattle.fsl_graph.specs.Ends.{IsEndOf}
-use Rattle.fsl_graph.specs.Positions.{Position, IsSeen, IsFenced, IsSent, IsGot, Reaches, StandsFor}
+use Rattle.fsl_graph.specs.Positions.{IsSent, Reaches, StandsFor}
 use Rattle.fsl_graph.specs.Positions.StandsFor.{by_event, by_fork}
 use Rattle.fsl_graph.proofs.Ended.{joined_ended}
-use Rattle.fsl_graph.proofs.Paths.{path_append, path_behind}
+use Rattle.fsl_graph.proofs.Paths.{path_behind}
 use Rattle.fsl_own.specs.Knowledge.{ForkTells, JoinTells, AwaitTells, ReleaseWriteTells, AtomicWriteTells, UpdateTells, ReleaseFenceTells, AcquireFenceTells, AcquiringReadTells, AtomicReadTells}
 use Rattle.fsl_own.proofs.Knowing.{po_before, known_at, known_after}
 
@@ -43,13 +41,27 @@ to_end g t a d v n (by_event y p q) =
       | inr s ↦ inr (one (by_sb (by_order (record { earlier = y; later = n.event; is_earlier = p; is_later = n.is; thread = q ∙ sym n.thread; before = omega arith }))))
     ]
 to_end g t a d v n (by_fork f) = inr (one (by_sb (fork_edge (record {
-  fork = f.event; event = n.event; children = f.children; is_fork = f.is; is_event = n.is; forks = f.forks; child = rw n.thread f.child;
+  fork = f.event;
+  event = n.event;
+  children = f.children;
+  is_fork = f.is;
+  is_event = n.is;
+  forks = f.forks;
+  child = rw n.thread f.child;
 }))))
 
 pub join_tells : JoinTells
 join_tells g done e x results t d v c j i n a s =
     known_after g done e x a c (inr (path_behind s.reaches (path_behind (to_end g t s.last d v n s.stands) (one (by_sb (join_edge (record {
-      last = n.event; join = x; value = v; results = results; is_last = n.is; is_join = c.is; ends = n.ends; joins = j; child = rw n.thread i;
+      last = n.event;
+      join = x;
+      value = v;
+      results = results;
+      is_last = n.is;
+      is_join = c.is;
+      ends = n.ends;
+      joins = j;
+      child = rw n.thread i;
     })))))))
 
 awaited : (results : List Ended) (k : ℕ) (r : Ended) → slice_get results k ≡ Some r → In r.thread (map thread_of results)
@@ -110,7 +122,13 @@ update_tells g done w e m l old new part other u r a s =
 -- where a message is acquired, what it knows of happened before
 acquired : (g : Graph) (w r p a : ℕ) → Rf g w r → AcquirePoint g r p → IsSent g w a → Hb g a p
 acquired g w r p a f q s = path_behind s.reaches (one (by_sw (record {
-  write = s.head; source = w; read = r; release = s.release; sequence = s.sequence; reads = f; acquire = q;
+  write = s.head;
+  source = w;
+  read = r;
+  release = s.release;
+  sequence = s.sequence;
+  reads = f;
+  acquire = q;
 })))
 
 pub acquiring_read_tells : AcquiringReadTells
@@ -122,14 +140,32 @@ atomic_read_tells g done w e x m l v part c r q f a s =
     let i = r.is in
     let same : r.event ≡ x = cc in
     record {
-      read = e; past = inl refl; mode = m; loc = l; value = v; reads = r; thread = ap (λ (y : Event). y.thread) same; atomic = q; source = w; from = f; sent = s;
+      read = e;
+      past = inl refl;
+      mode = m;
+      loc = l;
+      value = v;
+      reads = r;
+      thread = ap (λ (y : Event). y.thread) same;
+      atomic = q;
+      source = w;
+      from = f;
+      sent = s;
     }
 
 -- ---- fences
 
 pub release_fence_tells : ReleaseFenceTells
 release_fence_tells g done e x m c f r a s = record {
-  fence = e; past = inl refl; event = x; is = c.is; thread = refl; mode = m; fences = f; releases = r; reaches = known_at g done e x a c s;
+  fence = e;
+  past = inl refl;
+  event = x;
+  is = c.is;
+  thread = refl;
+  mode = m;
+  fences = f;
+  releases = r;
+  reaches = known_at g done e x a c s;
 }
 
 pub acquire_fence_tells : AcquireFenceTells
