@@ -12,7 +12,7 @@ use Rattle.fsl_graph.proofs.Edges.{is_in_true, sb_edges_decided, edges_decided}
 use Rattle.fsl_graph.proofs.Forward.{sb_from}
 
 -- of the numbers below n, those that lead to b are in the part
-abbrev leads_from : (ℕ → ℕ → Bool) → List ℕ → ℕ → ℕ → Bool
+abbrev pub leads_from : (ℕ → ℕ → Bool) → List ℕ → ℕ → ℕ → Bool
 leads_from e part b zero = true
 leads_from e part b (suc n) = (not (e n b) || is_in n part) && leads_from e part b n
 
@@ -24,7 +24,7 @@ each_from e part n (b ∷ bs) = leads_from e part b n && each_from e part n bs
 abbrev pub closes : (ℕ → ℕ → Bool) → ℕ → List ℕ → Bool
 closes e n part = each_from e part n part
 
-leads_in : (e : ℕ → ℕ → Bool) (part : List ℕ) (b n a : ℕ) → leads_from e part b n ≡ true → a < n → e a b ≡ true → In a part
+pub leads_in : (e : ℕ → ℕ → Bool) (part : List ℕ) (b n a : ℕ) → leads_from e part b n ≡ true → a < n → e a b ≡ true → In a part
 leads_in e part b zero a h l k = absurd (omega arith)
 leads_in e part b (suc n) a h l k =
     let p = and_parts (not (e n b) || is_in n part) (leads_from e part b n) h in
@@ -66,7 +66,7 @@ sources_in n w zero (y ∷ ys) x h p e =
     source_in n w y.from (and_parts (source_below n y.from) (sources_below n ys) h).0 (ap (λ (z : Event). z.from) s ∙ e)
 sources_in n w (suc b) (y ∷ ys) x h p e = sources_in n w b ys x (and_parts (source_below n y.from) (sources_below n ys) h).1 p e
 
-edge_below : (g : Graph) → sources_below (length g.events) g.events ≡ true → (a b : ℕ) → Edge g a b → a < length g.events
+pub edge_below : (g : Graph) → sources_below (length g.events) g.events ≡ true → (a b : ℕ) → Edge g a b → a < length g.events
 edge_below g h a b (by_sb s) = sb_from g a b s
 edge_below g h a b (by_rf r) = sources_in (length g.events) a b g.events r.reader h r.is r.source
 

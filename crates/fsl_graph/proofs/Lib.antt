@@ -12,3 +12,6 @@ pub mod Ended
 pub mod Acquiring
 pub mod Closure
 pub mod Shapes
+pub mod Every
+pub mod Checked
+pub mod Possible

@@ -15,11 +15,12 @@ use Rattle.fsl_graph.specs.Happens.ReleasePoint.{at_write, at_fence as release_f
 use Rattle.fsl_graph.specs.Happens.AcquirePoint.{at_read, at_fence as acquire_fence}
 use Rattle.fsl_graph.specs.Edges.{is_in, sb_edge, edge}
 use Rattle.fsl_graph.specs.Graphs.{message_passing, relaxed_passing, fenced_passing, sequence_passing, fork_join, store_buffering, load, store, does, reads}
-use Rattle.fsl_graph.specs.Shapes.{MessagePassed, FencesPass, SequencePasses, RelaxedRaces, ForkPasses, JoinPasses, BuffersApart}
+use Rattle.fsl_graph.specs.Shapes.{ShapesPossible, MessagePassed, FencesPass, SequencePasses, RelaxedRaces, ForkPasses, JoinPasses, BuffersApart}
 use Rattle.fsl_graph.proofs.Paths.{closed_path}
 use Rattle.fsl_graph.proofs.Along.{closed_under_hb}
 use Rattle.fsl_graph.proofs.Edges.{sb_edges_decided, is_in_true, not_in}
 use Rattle.fsl_graph.proofs.Acquiring.{along_sb}
+use Rattle.fsl_graph.proofs.Possible.{possible}
 use Rattle.fsl_graph.proofs.Closure.{closes, edges_closed, sb_closed}
 
 -- an edge of sequenced-before that the test finds
@@ -104,3 +105,13 @@ relaxed_races = record {
   unordered = relaxed_apart (0 ∷ 1 ∷ 2 ∷ 3 ∷ 6 ∷ 7 ∷ []) refl 4 7 refl refl;
   unordered_back = relaxed_apart (0 ∷ 1 ∷ 2 ∷ 3 ∷ 4 ∷ []) refl 7 4 refl refl;
 }
+
+pub shapes_possible : ShapesPossible
+shapes_possible = (
+  possible message_passing refl,
+  possible relaxed_passing refl,
+  possible fenced_passing refl,
+  possible sequence_passing refl,
+  possible fork_join refl,
+  possible store_buffering refl,
+)

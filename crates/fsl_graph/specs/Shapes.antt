@@ -1,7 +1,19 @@
 -- What must be ordered by happens-before in the example graphs, and what must not.
+use Rattle.fsl_graph.specs.declared.graph.Graph.{Graph}
+use Rattle.fsl_graph.specs.Sequenced.{IsAcyclic}
 use Rattle.fsl_graph.specs.Happens.{Hb}
+use Rattle.fsl_graph.specs.Consistent.{IsConsistent}
 use Rattle.fsl_graph.specs.Safe.{IsRace}
 use Rattle.fsl_graph.specs.Graphs.{message_passing, relaxed_passing, fenced_passing, sequence_passing, fork_join, store_buffering}
+
+-- the graph is consistent, and its thread order and reads-from have no cycle together
+abbrev pub IsPossible : Graph → Type 0
+IsPossible g = IsConsistent g × IsAcyclic g
+
+-- so all of them are
+abbrev pub ShapesPossible : Type 0
+ShapesPossible = IsPossible message_passing × IsPossible relaxed_passing × IsPossible fenced_passing × IsPossible sequence_passing
+    × IsPossible fork_join × IsPossible store_buffering
 
 -- the write of the message happens before its read
 abbrev pub MessagePassed : Type 0

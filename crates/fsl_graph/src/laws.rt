@@ -3,7 +3,7 @@ ghost use Rattle.fsl_graph.specs.Edges.{SbEdgesDecided, EdgesDecided};
 ghost use Rattle.fsl_graph.specs.Ends.{JoinedEnded};
 ghost use Rattle.fsl_graph.specs.Orders.{HbAlongEdges, ClosedUnderHb, PrefixesClosed, NextComes, OneUpdate, ForwardOrder};
 ghost use Rattle.fsl_graph.specs.Reading.{ReadHasSource, ReadSeesLast, WriteIsLast, LastStays, OneLast};
-ghost use Rattle.fsl_graph.specs.Shapes.{MessagePassed, FencesPass, SequencePasses, ForkPasses, JoinPasses, BuffersApart, RelaxedRaces};
+ghost use Rattle.fsl_graph.specs.Shapes.{ShapesPossible, MessagePassed, FencesPass, SequencePasses, ForkPasses, JoinPasses, BuffersApart, RelaxedRaces};
 
 /// Happens-before goes along sequenced-before and reads-from, so that no part of an execution that is closed
 /// under these is ever entered from outside; a source has one read-modify-write at most.
@@ -38,6 +38,7 @@ pub fn reading()
 
 /// What the example graphs order, and what they don't.
 pub fn shapes()
+    ensures possible { ShapesPossible }
     ensures message { MessagePassed }
     ensures fences { FencesPass }
     ensures sequence { SequencePasses }
