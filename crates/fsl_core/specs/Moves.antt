@@ -97,7 +97,7 @@ abbrev pub arguments_from : List ℕ → ℕ → List Expr → Values → Option
 arguments_from banks slot [] env = Some []
 arguments_from banks slot (e ∷ es) env =
     with_value (argument (list_any (λ bank. bank == slot) banks) e env) (λ v.
-        with_value (arguments_from banks (slot + 1) es env) (λ vs. Some (v ∷ vs)))
+    with_value (arguments_from banks (slot + 1) es env) (λ vs. Some (v ∷ vs)))
 
 -- the arguments of a call of a procedure, which is there
 abbrev pub arguments_of : Option Proc → List Expr → Values → Option Values
@@ -147,7 +147,7 @@ abbrev pub started_of : Program → List Called → Values → Option (List Star
 started_of p [] env = Some []
 started_of p (c ∷ cs) env =
     with_value (arguments_of (slice_get p.procs c.proc) c.args env) (λ args.
-        with_value (started_of p cs env) (λ rest. Some (record { proc = c.proc; args = args } ∷ rest)))
+    with_value (started_of p cs env) (λ rest. Some (record { proc = c.proc; args = args } ∷ rest)))
 
 -- a compare-exchange has read v
 abbrev pub exchanged : Mode → Mode → ℤ → ℤ → ℤ → ℤ → Config → Moved

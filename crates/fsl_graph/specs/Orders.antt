@@ -60,3 +60,7 @@ OneUpdate = (g : Graph) → IsConsistent g → (w a b : ℕ) (m n : Mode) (l k i
 -- each consistent acyclic graph has a forward order
 abbrev pub ForwardOrder : Type 0
 ForwardOrder = (g : Graph) → IsConsistent g → IsAcyclic g → (order : List ℕ) × IsForwardOrder g order
+
+-- and a graph that has one is acyclic
+abbrev pub OrderedIsAcyclic : Type 0
+OrderedIsAcyclic = (g : Graph) (order : List ℕ) → IsForwardOrder g order → IsAcyclic g

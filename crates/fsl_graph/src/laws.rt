@@ -1,7 +1,7 @@
 //! What the relations of a graph come to. Each call does nothing; its contract is a family of laws.
 ghost use Rattle.fsl_graph.specs.Edges.{SbEdgesDecided, EdgesDecided};
 ghost use Rattle.fsl_graph.specs.Ends.{JoinedEnded};
-ghost use Rattle.fsl_graph.specs.Orders.{HbAlongEdges, ClosedUnderHb, PrefixesClosed, NextComes, OneUpdate, ForwardOrder};
+ghost use Rattle.fsl_graph.specs.Orders.{HbAlongEdges, ClosedUnderHb, PrefixesClosed, NextComes, OneUpdate, ForwardOrder, OrderedIsAcyclic};
 ghost use Rattle.fsl_graph.specs.Reading.{ReadHasSource, ReadSeesLast, WriteIsLast, LastStays, OneLast};
 ghost use Rattle.fsl_graph.specs.Shapes.{ShapesPossible, MessagePassed, FencesPass, SequencePasses, ForkPasses, JoinPasses, BuffersApart, RelaxedRaces};
 
@@ -21,10 +21,11 @@ pub fn edge_tests()
     ensures edge { EdgesDecided }
 {}
 
-/// Each consistent execution whose thread order and reads-from have no cycle together can be gone through
-/// event by event.
+/// A consistent execution can be gone through event by event exactly where thread order and reads-from have no
+/// cycle together.
 pub fn forward_orders()
-    ensures { ForwardOrder }
+    ensures order { ForwardOrder }
+    ensures acyclic { OrderedIsAcyclic }
 {}
 
 /// Where the writes of a location happened before a read, it reads the last of them.
