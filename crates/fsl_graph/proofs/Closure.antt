@@ -36,7 +36,7 @@ leads_in e part b (suc n) a h l k =
       | inr d ↦ leads_in e part b n a p.1 (omega arith) k
     ]
 
-each_in : (e : ℕ → ℕ → Bool) (part : List ℕ) (n : ℕ) (bs : List ℕ) (a b : ℕ) → each_from e part n bs ≡ true → a < n → e a b ≡ true → In b bs → In a part
+pub each_in : (e : ℕ → ℕ → Bool) (part : List ℕ) (n : ℕ) (bs : List ℕ) (a b : ℕ) → each_from e part n bs ≡ true → a < n → e a b ≡ true → In b bs → In a part
 each_in e part n [] a b h l k i = elim i [ ]
 each_in e part n (c ∷ bs) a b h l k (inl s) =
     leads_in e part c n a (and_parts (leads_from e part c n) (each_from e part n bs) h).0 l (subst (λ (m : ℕ). e a m ≡ true) s k)
@@ -66,7 +66,7 @@ sources_in n w zero (y ∷ ys) x h p e =
     source_in n w y.from (and_parts (source_below n y.from) (sources_below n ys) h).0 (ap (λ (z : Event). z.from) s ∙ e)
 sources_in n w (suc b) (y ∷ ys) x h p e = sources_in n w b ys x (and_parts (source_below n y.from) (sources_below n ys) h).1 p e
 
-pub edge_below : (g : Graph) → sources_below (length g.events) g.events ≡ true → (a b : ℕ) → Edge g a b → a < length g.events
+edge_below : (g : Graph) → sources_below (length g.events) g.events ≡ true → (a b : ℕ) → Edge g a b → a < length g.events
 edge_below g h a b (by_sb s) = sb_from g a b s
 edge_below g h a b (by_rf r) = sources_in (length g.events) a b g.events r.reader h r.is r.source
 

@@ -6,7 +6,7 @@ use Rattle.fsl_core.specs.declared.mode.Mode.TheVariants as mode
 use Rattle.fsl_graph.specs.declared.event.Event.{Event}
 use Rattle.fsl_graph.specs.declared.graph.Graph.{Graph}
 use Rattle.fsl_graph.specs.Events.{Is}
-use Rattle.fsl_graph.specs.Sequenced.{Po}
+use Rattle.fsl_graph.specs.Sequenced.{Edge, Po}
 use Rattle.fsl_graph.specs.Sequenced.Path.{one, more}
 use Rattle.fsl_graph.specs.Happens.{Hb, HbEdge}
 use Rattle.fsl_graph.specs.Happens.HbEdge.{by_sb, by_sw}
@@ -14,13 +14,14 @@ use Rattle.fsl_graph.specs.Happens.InSequence.{head, next}
 use Rattle.fsl_graph.specs.Happens.ReleasePoint.{at_write, at_fence as release_fence}
 use Rattle.fsl_graph.specs.Happens.AcquirePoint.{at_read, at_fence as acquire_fence}
 use Rattle.fsl_graph.specs.Edges.{is_in, sb_edge, edge}
-use Rattle.fsl_graph.specs.Graphs.{message_passing, relaxed_passing, fenced_passing, sequence_passing, fork_join, store_buffering, load, store, does, reads}
-use Rattle.fsl_graph.specs.Shapes.{ShapesPossible, MessagePassed, FencesPass, SequencePasses, RelaxedRaces, ForkPasses, JoinPasses, BuffersApart}
+use Rattle.fsl_graph.specs.Graphs.{message_passing, relaxed_passing, fenced_passing, sequence_passing, fork_join, store_buffering, load_buffering, load, store, does, reads}
+use Rattle.fsl_graph.specs.Shapes.{ShapesPossible, CycleHasNoOrder, MessagePassed, FencesPass, SequencePasses, RelaxedRaces, ForkPasses, JoinPasses, BuffersApart}
 use Rattle.fsl_graph.proofs.Paths.{closed_path}
 use Rattle.fsl_graph.proofs.Along.{closed_under_hb}
-use Rattle.fsl_graph.proofs.Edges.{sb_edges_decided, is_in_true, not_in}
+use Rattle.fsl_graph.proofs.Edges.{sb_edges_decided, edges_decided, is_in_true, not_in}
 use Rattle.fsl_graph.proofs.Acquiring.{along_sb}
-use Rattle.fsl_graph.proofs.Possible.{possible}
+use Rattle.fsl_graph.proofs.Possible.{possible, consistent_by_sb}
+use Rattle.fsl_graph.proofs.Forward.{ordered_is_acyclic}
 use Rattle.fsl_graph.proofs.Closure.{closes, edges_closed, sb_closed}
 
 -- an edge of sequenced-before that the test finds
@@ -114,4 +115,15 @@ shapes_possible = (
   possible sequence_passing refl,
   possible fork_join refl,
   possible store_buffering refl,
+)
+
+-- an edge that the test finds
+edge_of : (g : Graph) (a b : ℕ) → edge g a b ≡ true → Edge g a b
+edge_of g a b h = (edges_decided g a b).0 h
+
+pub cycle_has_no_order : CycleHasNoOrder
+cycle_has_no_order = (
+  consistent_by_sb load_buffering refl refl,
+  λ order f. ordered_is_acyclic load_buffering order f 5 (more {b = 6} (edge_of load_buffering 5 6 refl) (more {b = 7} (edge_of load_buffering 6 7 refl)
+      (more {b = 8} (edge_of load_buffering 7 8 refl) (one (edge_of load_buffering 8 5 refl))))),
 )

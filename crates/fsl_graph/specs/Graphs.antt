@@ -95,3 +95,14 @@ store_buffering = record {
       ∷ does 2 (store mode.Rel 2 1) ∷ reads 2 (load mode.Acq 1 0) 2 ∷ [];
   mo = order 1 (2 ∷ 5 ∷ []) ∷ order 2 (3 ∷ 7 ∷ []) ∷ [];
 }
+
+-- each of two threads reads what the other writes after its own read
+abbrev pub load_buffering : Graph
+load_buffering = record {
+  threads = thread 0 5 ∷ thread 1 2 ∷ thread 2 2 ∷ [];
+  events = does 0 (label.Alloc kind.Acq (pos 1)) ∷ does 0 (label.Alloc kind.Acq (pos 2))
+      ∷ does 0 (store mode.Rel 1 0) ∷ does 0 (store mode.Rel 2 0) ∷ does 0 (label.Fork (1 ∷ 2 ∷ []))
+      ∷ reads 1 (load mode.Rlx 1 1) 8 ∷ does 1 (store mode.Rlx 2 1)
+      ∷ reads 2 (load mode.Rlx 2 1) 6 ∷ does 2 (store mode.Rlx 1 1) ∷ [];
+  mo = order 1 (2 ∷ 8 ∷ []) ∷ order 2 (3 ∷ 6 ∷ []) ∷ [];
+}

@@ -1,10 +1,12 @@
 -- What must be ordered by happens-before in the example graphs, and what must not.
+use Rattle.std.specs.Prelude.{ℕ, List}
 use Rattle.fsl_graph.specs.declared.graph.Graph.{Graph}
 use Rattle.fsl_graph.specs.Sequenced.{IsAcyclic}
 use Rattle.fsl_graph.specs.Happens.{Hb}
 use Rattle.fsl_graph.specs.Consistent.{IsConsistent}
 use Rattle.fsl_graph.specs.Safe.{IsRace}
-use Rattle.fsl_graph.specs.Graphs.{message_passing, relaxed_passing, fenced_passing, sequence_passing, fork_join, store_buffering}
+use Rattle.fsl_graph.specs.Graphs.{message_passing, relaxed_passing, fenced_passing, sequence_passing, fork_join, store_buffering, load_buffering}
+use Rattle.fsl_graph.specs.Orders.{IsForwardOrder}
 
 -- the graph is consistent, and its thread order and reads-from have no cycle together
 abbrev pub IsPossible : Graph → Type 0
@@ -39,3 +41,8 @@ JoinPasses = Hb fork_join 4 7
 -- neither write of store buffering happens before the other thread's read
 abbrev pub BuffersApart : Type 0
 BuffersApart = (Hb store_buffering 5 8 → ⊥) × (Hb store_buffering 7 6 → ⊥)
+
+-- load buffering is consistent, and no order of its events goes forward: its thread order and reads-from have a
+-- cycle together
+abbrev pub CycleHasNoOrder : Type 0
+CycleHasNoOrder = IsConsistent load_buffering × ((order : List ℕ) → IsForwardOrder load_buffering order → ⊥)

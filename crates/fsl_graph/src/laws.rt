@@ -3,7 +3,7 @@ ghost use Rattle.fsl_graph.specs.Edges.{SbEdgesDecided, EdgesDecided};
 ghost use Rattle.fsl_graph.specs.Ends.{JoinedEnded};
 ghost use Rattle.fsl_graph.specs.Orders.{HbAlongEdges, ClosedUnderHb, PrefixesClosed, NextComes, OneUpdate, ForwardOrder, OrderedIsAcyclic};
 ghost use Rattle.fsl_graph.specs.Reading.{ReadHasSource, ReadSeesLast, WriteIsLast, LastStays, OneLast};
-ghost use Rattle.fsl_graph.specs.Shapes.{ShapesPossible, MessagePassed, FencesPass, SequencePasses, ForkPasses, JoinPasses, BuffersApart, RelaxedRaces};
+ghost use Rattle.fsl_graph.specs.Shapes.{ShapesPossible, MessagePassed, FencesPass, SequencePasses, ForkPasses, JoinPasses, BuffersApart, RelaxedRaces, CycleHasNoOrder};
 
 /// Happens-before goes along sequenced-before and reads-from, so that no part of an execution that is closed
 /// under these is ever entered from outside; a source has one read-modify-write at most.
@@ -47,6 +47,7 @@ pub fn shapes()
     ensures join { JoinPasses }
     ensures buffers { BuffersApart }
     ensures relaxed { RelaxedRaces }
+    ensures cycle { CycleHasNoOrder }
 {}
 
 /// A Join waits for threads that have ended.
