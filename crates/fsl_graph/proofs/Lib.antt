@@ -1,0 +1,17 @@
+pub mod Paths
+pub mod Along
+pub mod Places
+pub mod Edges
+pub mod Reach
+pub mod Sorted
+pub mod Forward
+pub mod Reading
+pub mod Returning
+pub mod Numbered
+pub mod Ended
+pub mod Acquiring
+pub mod Closure
+pub mod Shapes
+pub mod Every
+pub mod Checked
+pub mod Possible

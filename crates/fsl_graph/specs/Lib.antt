@@ -1,0 +1,14 @@
+pub mod Events
+pub mod Sequenced
+pub mod Happens
+pub mod Places
+pub mod Consistent
+pub mod Execution
+pub mod Safe
+pub mod Positions
+pub mod Orders
+pub mod Edges
+pub mod Ends
+pub mod Reading
+pub mod Graphs
+pub mod Shapes

@@ -1,0 +1,56 @@
+//! What the relations of a graph come to. Each call does nothing; its contract is a family of laws.
+ghost use Rattle.fsl_graph.specs.Edges.{SbEdgesDecided, EdgesDecided};
+ghost use Rattle.fsl_graph.specs.Ends.{JoinedEnded};
+ghost use Rattle.fsl_graph.specs.Orders.{HbAlongEdges, ClosedUnderHb, PrefixesClosed, NextComes, OneUpdate, ForwardOrder, OrderedIsAcyclic};
+ghost use Rattle.fsl_graph.specs.Reading.{ReadHasSource, ReadSeesLast, WriteIsLast, LastStays, OneLast};
+ghost use Rattle.fsl_graph.specs.Shapes.{ShapesPossible, MessagePassed, FencesPass, SequencePasses, ForkPasses, JoinPasses, BuffersApart, RelaxedRaces, CycleHasNoOrder};
+
+/// Happens-before goes along sequenced-before and reads-from, so that no part of an execution that is closed
+/// under these is ever entered from outside; a source has one read-modify-write at most.
+pub fn along_edges()
+    ensures hb { HbAlongEdges }
+    ensures closed { ClosedUnderHb }
+    ensures prefixes { PrefixesClosed }
+    ensures next { NextComes }
+    ensures update { OneUpdate }
+{}
+
+/// Edges can be told by tests.
+pub fn edge_tests()
+    ensures sb { SbEdgesDecided }
+    ensures edge { EdgesDecided }
+{}
+
+/// A consistent execution can be gone through event by event exactly where thread order and reads-from have no
+/// cycle together.
+pub fn forward_orders()
+    ensures order { ForwardOrder }
+    ensures acyclic { OrderedIsAcyclic }
+{}
+
+/// Where the writes of a location happened before a read, it reads the last of them.
+pub fn reading()
+    ensures source { ReadHasSource }
+    ensures last { ReadSeesLast }
+    ensures write { WriteIsLast }
+    ensures stays { LastStays }
+    ensures one { OneLast }
+{}
+
+/// What the example graphs order, and what they don't.
+pub fn shapes()
+    ensures possible { ShapesPossible }
+    ensures message { MessagePassed }
+    ensures fences { FencesPass }
+    ensures sequence { SequencePasses }
+    ensures fork { ForkPasses }
+    ensures join { JoinPasses }
+    ensures buffers { BuffersApart }
+    ensures relaxed { RelaxedRaces }
+    ensures cycle { CycleHasNoOrder }
+{}
+
+/// A Join waits for threads that have ended.
+pub fn joins()
+    ensures { JoinedEnded }
+{}
