@@ -6,3 +6,4 @@ pub mod Consistent
 pub mod Execution
 pub mod Safe
 pub mod Positions
+pub mod Lone
