@@ -5,6 +5,7 @@
 
 mod event;
 mod graph;
+pub mod laws;
 
 pub use event::Event;
 pub use graph::{Graph, Order, Thread};
