@@ -7,3 +7,4 @@ pub mod Execution
 pub mod Safe
 pub mod Positions
 pub mod Lone
+pub mod Refused
