@@ -15,3 +15,5 @@ pub mod Shapes
 pub mod Every
 pub mod Checked
 pub mod Possible
+pub mod Lone
+pub mod Refused

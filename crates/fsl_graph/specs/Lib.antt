@@ -12,3 +12,5 @@ pub mod Ends
 pub mod Reading
 pub mod Graphs
 pub mod Shapes
+pub mod Lone
+pub mod Refused

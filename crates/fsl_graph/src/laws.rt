@@ -1,8 +1,10 @@
 //! What the relations of a graph come to. Each call does nothing; its contract is a family of laws.
 ghost use Rattle.fsl_graph.specs.Edges.{SbEdgesDecided, EdgesDecided};
 ghost use Rattle.fsl_graph.specs.Ends.{JoinedEnded};
+ghost use Rattle.fsl_graph.specs.Lone.{LoneIsConsistent};
 ghost use Rattle.fsl_graph.specs.Orders.{HbAlongEdges, ClosedUnderHb, PrefixesClosed, NextComes, OneUpdate, ForwardOrder, OrderedIsAcyclic};
 ghost use Rattle.fsl_graph.specs.Reading.{ReadHasSource, ReadSeesLast, WriteIsLast, LastStays, OneLast};
+ghost use Rattle.fsl_graph.specs.Refused.{EachIsRefused};
 ghost use Rattle.fsl_graph.specs.Shapes.{ShapesPossible, MessagePassed, FencesPass, SequencePasses, ForkPasses, JoinPasses, BuffersApart, RelaxedRaces, CycleHasNoOrder};
 
 /// Happens-before goes along sequenced-before and reads-from, so that no part of an execution that is closed
@@ -53,4 +55,15 @@ pub fn shapes()
 /// A Join waits for threads that have ended.
 pub fn joins()
     ensures { JoinedEnded }
+{}
+
+/// A graph of one thread with non-atomic accesses, whose loads read the last store before them, is
+/// consistent and acyclic.
+pub fn one_thread()
+    ensures { LoneIsConsistent }
+{}
+
+/// Each rule refuses a small graph that has one fault.
+pub fn faults_are_refused()
+    ensures { EachIsRefused }
 {}
