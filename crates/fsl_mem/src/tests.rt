@@ -90,7 +90,16 @@ fn sources_end_no_earlier_than_what_is_seen(rt: HostRuntime) -> Result<(), Fail>
         Source::Message { number: 0 },
         Source::Message { number: 3 },
     ];
-    for (seen, passed) in [(0, 0), (1, 1), (2, 2), (3, 2), (4, 3), (5, 4), (7, 4), (8, 5)] {
+    for (seen, passed) in [
+        (0, 0),
+        (1, 1),
+        (2, 2),
+        (3, 2),
+        (4, 3),
+        (5, 4),
+        (7, 4),
+        (8, 5),
+    ] {
         let sources = memory.readable(rt.alloc(), 5, &view(rt.alloc(), seen)?)?;
         assert_eq!(rt; sources.as_slice(), &all[passed..], "seen {seen}");
     }
