@@ -30,7 +30,9 @@ impl<'a> Work for Procedures<'a> {
     }
 }
 
-/// The verdict on a program, by 1 to 64 workers. The gate is called before each procedure.
+/// The verdict on a program: the failure of its least procedure that fails, else their number. It is the same for
+/// every number of workers, from 1 to 64. The gate is called before each procedure that is judged; one behind another
+/// that failed may be left out.
 pub fn judge<R: Threads + Sync, G: Gate>(
     rt: &R,
     alloc: Global,
