@@ -5,14 +5,15 @@ ghost use Rattle.fslpp.specs.Answers.{IsAnswered, IsChecked, IsSaid, answer, che
 ghost use Rattle.fslpp.specs.Texts.{usage};
 
 use crate::answer::{Answer, say};
-use crate::judging::judge;
 use crate::loading::{Loaded, read_program};
 use crate::refused::Refused;
 use crate::status::Status;
 use crate::texts::{READ_FAULT, REFUSED_FORM, REFUSED_SIZE, USAGE, verdict_text};
 use fsl_base::{Gate, Shelf, Sink, Text};
 use fsl_core::Verdict;
+use fsl_sound::judge;
 use std::alloc::{AllocError, Global};
+use std::thread::Threads;
 
 /// An answer with a fixed text.
 fn fixed(alloc: Global, status: u8, text: &str) -> Result<Answer, AllocError>
@@ -47,12 +48,20 @@ fn verdict_status(v: &Verdict) -> u8
 }
 
 /// The answer on a program that was read.
-fn judged<G: Gate>(alloc: Global, loaded: &Loaded, gate: &G) -> Result<Answer, AllocError>
+fn judged<R: Threads + Sync, G: Gate>(
+    rt: &R,
+    alloc: Global,
+    loaded: &Loaded,
+    workers: u32,
+    gate: &G,
+) -> Result<Answer, AllocError>
     requires covered { IsTrue (is_straight loaded.now.program) }
     requires within { length loaded.now.bytes ≤ 1048576 }
+    requires some { 1 ≤ workers }
+    requires few { workers ≤ 64 }
     ensures { IfOk result (λ a. a ≡ verdict_answer loaded.now.bytes loaded.now.program) }
 {
-    let verdict = judge(alloc, &loaded.program, gate)?;
+    let verdict = judge(rt, alloc, &loaded.program, workers, gate)?;
     let text = verdict_text(alloc, loaded.bytes.as_slice(), &loaded.program, &verdict)?;
     Ok(Answer {
         status: Status(verdict_status(&verdict)),
@@ -61,23 +70,28 @@ fn judged<G: Gate>(alloc: Global, loaded: &Loaded, gate: &G) -> Result<Answer, A
 }
 
 /// The answer of `check`, before it is written.
-fn checked<H: Shelf, G: Gate>(
+fn checked<R: Threads + Sync, H: Shelf, G: Gate>(
+    rt: &R,
     alloc: Global,
     name: &str,
+    workers: u32,
     shelf: &mut H,
     gate: &G,
 ) -> Result<Answer, AllocError>
+    requires some { 1 ≤ workers }
+    requires few { workers ≤ 64 }
     ensures { IfOk result (λ a. IsChecked (record { content = H.content shelf.old; name = name.now; faults_before = H.faults shelf.old; faults_after = H.faults shelf.new; given_before = H.given shelf.old; given_after = H.given shelf.new }) a) }
 {
     match read_program(alloc, name, shelf) {
-        Ok(loaded) => judged(alloc, &loaded, gate),
+        Ok(loaded) => judged(rt, alloc, &loaded, workers, gate),
         Err(unread) => refused(alloc, unread.fault),
     }
 }
 
-/// `check FILE`: reads the program, judges it and writes the verdict. The answer does not depend on the number of
-/// workers, from 1 to 64; so far one does all the work.
-pub fn check_cmd<H: Shelf, K: Sink, G: Gate>(
+/// `check FILE`: reads the program, judges its procedures on 1 to 64 workers and writes the verdict. The answer does
+/// not depend on the number of workers, and no worker waits for another.
+pub fn check_cmd<R: Threads + Sync, H: Shelf, K: Sink, G: Gate>(
+    rt: &R,
     alloc: Global,
     name: &str,
     workers: u32,
@@ -89,7 +103,7 @@ pub fn check_cmd<H: Shelf, K: Sink, G: Gate>(
     requires few { workers ≤ 64 }
     ensures { IsSaid (IsChecked (record { content = H.content shelf.old; name = name.now; faults_before = H.faults shelf.old; faults_after = H.faults shelf.new; given_before = H.given shelf.old; given_after = H.given shelf.new })) (record { faults_before = K.faults sink.old; faults_after = K.faults sink.new; before = K.written sink.old; after = K.written sink.new }) result }
 {
-    match checked(alloc, name, shelf, gate) {
+    match checked(rt, alloc, name, workers, shelf, gate) {
         Ok(answer) => say(sink, &answer),
         Err(_) => Status(6),
     }
@@ -115,8 +129,10 @@ fn usage_cmd<K: Sink>(alloc: Global, sink: &mut K) -> Status
     }
 }
 
-/// Runs the program on its words: its name, an action and what the action takes.
-pub fn fslpp<'a, H: Shelf, K: Sink, G: Gate>(
+/// Runs the program on its words: its name, an action and what the action takes. One worker judges, as long as no
+/// word says how many.
+pub fn fslpp<'a, R: Threads + Sync, H: Shelf, K: Sink, G: Gate>(
+    rt: &R,
     alloc: Global,
     words: &'a [&'a str],
     shelf: &mut H,
@@ -126,7 +142,7 @@ pub fn fslpp<'a, H: Shelf, K: Sink, G: Gate>(
     ensures { IsSaid (IsAnswered (checked_name (map (λ word. word.now) words.now)) (λ name. record { content = H.content shelf.old; name = name; faults_before = H.faults shelf.old; faults_after = H.faults shelf.new; given_before = H.given shelf.old; given_after = H.given shelf.new })) (record { faults_before = K.faults sink.old; faults_after = K.faults sink.new; before = K.written sink.old; after = K.written sink.new }) result }
 {
     match checked_name(words) {
-        Some(name) => check_cmd(alloc, name, 1, shelf, sink, gate),
+        Some(name) => check_cmd(rt, alloc, name, 1, shelf, sink, gate),
         None => usage_cmd(alloc, sink),
     }
 }

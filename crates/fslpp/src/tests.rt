@@ -1,10 +1,12 @@
 //! Whole runs over a shelf and a sink in memory: what no clause says is that memory is found, and which bytes
 //! are which program.
-use crate::commands::fslpp;
+use crate::commands::{check_cmd, fslpp};
 use crate::status::Status;
 use fsl_base::{Cut, List, MemShelf, MemSink, Named, OpenGate, Text};
 use std::alloc::{AllocError, Global};
 use std::process::Abort;
+use std::test::Fail;
+use std::thread::Threads;
 
 // A shelf with one file, `f`, that gives one byte a pull.
 fn shelf(alloc: Global, bytes: &[u8], failing: &[u32]) -> Result<MemShelf, AllocError> {
@@ -16,7 +18,8 @@ fn shelf(alloc: Global, bytes: &[u8], failing: &[u32]) -> Result<MemShelf, Alloc
 }
 
 // The status and what the sink holds after a run; call numbers that fail, and how many bytes the first push takes.
-fn run(
+fn run<R: Threads + Sync>(
+    rt: &R,
     alloc: Global,
     words: &[&str],
     bytes: &[u8],
@@ -29,7 +32,7 @@ fn run(
     }
     let mut shelf = shelf(alloc, bytes, failing)?;
     let mut sink = MemSink::new(alloc, 128, cuts)?;
-    let status = fslpp(alloc, words, &mut shelf, &mut sink, &OpenGate);
+    let status = fslpp(rt, alloc, words, &mut shelf, &mut sink, &OpenGate);
     Ok((status, sink))
 }
 
@@ -79,6 +82,7 @@ fn programs_are_judged(rt: HostRuntime) {
         expect(
             &rt,
             run(
+                &rt,
                 rt.alloc(),
                 &["fslpp", "check", "f"],
                 text.as_bytes(),
@@ -98,6 +102,7 @@ fn a_file_has_at_most_1048576_bytes(rt: HostRuntime) {
         expect(
             &rt,
             run(
+                &rt,
                 rt.alloc(),
                 &["fslpp", "check", "f"],
                 spaces.as_slice(),
@@ -115,33 +120,92 @@ fn faults_have_their_statuses(rt: HostRuntime) {
     let program = b"proc main() { }";
     expect(
         &rt,
-        run(rt.alloc(), &["fslpp", "check", "f"], program, &[4], None),
+        run(
+            &rt,
+            rt.alloc(),
+            &["fslpp", "check", "f"],
+            program,
+            &[4],
+            None,
+        ),
         4,
         "read fault\n",
     );
     expect(
         &rt,
-        run(rt.alloc(), &["fslpp", "check", "g"], program, &[], None),
+        run(
+            &rt,
+            rt.alloc(),
+            &["fslpp", "check", "g"],
+            program,
+            &[],
+            None,
+        ),
         4,
         "read fault\n",
     );
     expect(
         &rt,
-        run(rt.alloc(), &["fslpp", "check", "f"], program, &[], Some(5)),
+        run(
+            &rt,
+            rt.alloc(),
+            &["fslpp", "check", "f"],
+            program,
+            &[],
+            Some(5),
+        ),
         5,
         "accep",
     );
     let usage = "usage: fslpp check|run|gauge FILE [--workers N] [--seed N] [--steps N]\n";
     expect(
         &rt,
-        run(rt.alloc(), &["fslpp", "check"], program, &[], None),
+        run(&rt, rt.alloc(), &["fslpp", "check"], program, &[], None),
         2,
         usage,
     );
     expect(
         &rt,
-        run(rt.alloc(), &["fslpp", "judge", "f"], program, &[], None),
+        run(
+            &rt,
+            rt.alloc(),
+            &["fslpp", "judge", "f"],
+            program,
+            &[],
+            None,
+        ),
         2,
         usage,
     );
+}
+
+// A failing program and an accepted one, of one procedure each: the answers are the same for every number of
+// workers. That the lesser of two failing procedures is named is shown on units in the crate of the workers.
+#[test]
+fn the_number_of_workers_changes_no_answer(rt: HostRuntime) -> Result<(), Fail> {
+    for workers in [1, 8, 64] {
+        for (text, status, said) in [
+            ("proc main() { }", 0, "accepted 1\n"),
+            (
+                "proc main() { assert (0 == 1); }",
+                1,
+                "failed main 1:15 assert\n",
+            ),
+        ] {
+            let mut shelf = shelf(rt.alloc(), text.as_bytes(), &[])?;
+            let mut sink = MemSink::new(rt.alloc(), 128, List::new(rt.alloc()))?;
+            let got = check_cmd(
+                &rt,
+                rt.alloc(),
+                "f",
+                workers,
+                &mut shelf,
+                &mut sink,
+                &OpenGate,
+            );
+            assert_eq!(rt; got, Status(status), "{workers} workers");
+            assert_eq!(rt; sink.written(), said.as_bytes(), "{workers} workers");
+        }
+    }
+    Ok(())
 }
