@@ -26,5 +26,6 @@ pub use equation::Equation;
 pub use fact::Fact;
 pub use fault::LinFault;
 pub use lin::Lin;
+pub use normal::PLACES;
 pub use sym::Sym;
 pub use took::Took;
