@@ -1,0 +1,13 @@
+//! What is known at a place of a path: equations and bounds that were assumed, and what they prove.
+#![tactic(auto)]
+
+mod bound;
+mod difference;
+mod fault;
+mod kept;
+mod push;
+mod shared;
+mod sums;
+mod table;
+
+pub use fault::PureFault;
