@@ -4,4 +4,6 @@ pub mod InPlace
 pub mod Linear
 pub mod Proving
 pub mod Reversed
+pub mod Sound
 pub mod Tabled
+pub mod Walked

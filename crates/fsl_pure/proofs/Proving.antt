@@ -14,7 +14,7 @@ use Rattle.fsl_lin.specs.Facts.{end_at, ends, edge_from, edge_of, with_edge_of, 
 use Rattle.fsl_bounds.proofs.Least.{contains_first, least_edge}
 use Rattle.fsl_pure.specs.Table.{contradict, refutes}
 
-equal : (x y : ℤ) → int_eq x y ≡ true → x ≡ y
+pub equal : (x y : ℤ) → int_eq x y ≡ true → x ≡ y
 equal x y h = (Decides-int_eq x y).0 h
 
 -- a constant has no ends

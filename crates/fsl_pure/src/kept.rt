@@ -86,6 +86,17 @@ impl Kept {
         Ok(())
     }
 
+    /// Adds the bound that a term is at most 0.
+    pub fn add_term(&mut self, alloc: Global, eqs: &Eqs, t: &Lin) -> Result<(), LinFault>
+        ensures added { OnOk result (map part self.new ≡ normal (rows_of eqs.now) (part t.now) ∷ map part self.old) }
+        ensures kept { OnErr result (self.new ≡ self.old) }
+        ensures wide { IsErrOf result LinFault.Wide → fits (normal (rows_of eqs.now) (part t.now)) ≡ false }
+    {
+        let mut numbers = [0i128; PLACES];
+        eqs.fill(t, &mut numbers);
+        self.add(alloc, &numbers)
+    }
+
     /// Whether a bound is proved of which an array has the normal form.
     pub fn proves(&self, numbers: &[i128]) -> bool
         requires clear { contradict (map part self.now) ≡ false }
@@ -126,20 +137,10 @@ fn renewed(alloc: Global, bounds: &[Shared<Lin>], eqs: &Eqs) -> Result<Kept, Lin
 {
     let mut kept = Kept::new(alloc)?;
     for bound in bounds {
-        match renew(alloc, &mut kept, bound.get(), eqs) {
+        match kept.add_term(alloc, eqs, bound.get()) {
             Ok(()) => (),
             Err(fault) => return Err(fault),
         }
     }
     Ok(kept)
-}
-
-/// Adds the normal form of a bound.
-fn renew(alloc: Global, kept: &mut Kept, bound: &Lin, eqs: &Eqs) -> Result<(), LinFault>
-    ensures added { OnOk result (map part kept.new ≡ normal (rows_of eqs.now) (part bound.now) ∷ map part kept.old) }
-    ensures wide { IsErrOf result LinFault.Wide → fits (normal (rows_of eqs.now) (part bound.now)) ≡ false }
-{
-    let mut numbers = [0i128; PLACES];
-    eqs.fill(bound, &mut numbers);
-    kept.add(alloc, &numbers)
 }

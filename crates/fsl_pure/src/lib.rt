@@ -3,6 +3,7 @@
 
 mod bound;
 mod difference;
+mod equated;
 mod fault;
 mod kept;
 mod push;
