@@ -1,5 +1,7 @@
 pub mod Ends
+pub mod Follows
 pub mod Gaps
+pub mod Held
 pub mod InPlace
 pub mod Linear
 pub mod Proving

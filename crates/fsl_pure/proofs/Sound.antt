@@ -45,7 +45,7 @@ value_scaled k v f c = ap (value k v) (λ j i. *ℤ_comm (f i) c j) ∙ value_ti
 line_neg : (a b x y : ℤ) → x ≡ neg_ℤ a → y ≡ neg_ℤ b → x +ℤ y ≡ neg_ℤ (a +ℤ b)
 line_neg a b x y h k = omega (arith, ints)
 
-value_opposite : (k : ℕ) (v f : Numbers) → value k v (opposite f) ≡ neg_ℤ (value k v f)
+pub value_opposite : (k : ℕ) (v f : Numbers) → value k v (opposite f) ≡ neg_ℤ (value k v f)
 value_opposite zero v f = refl
 value_opposite (suc k) v f = line_neg (value k v f) (f k *ℤ v k) _ _ (value_opposite k v f) (times_neg (f k) (v k))
 
@@ -74,10 +74,11 @@ value_normal k v rs t h = value_minus k v t (taken rs t) ∙ line_less (value k 
 
 satisfies_without : (k : ℕ) (v : Numbers) (p : ℕ) (e : Numbers) (rs : List Row) → value k v e ≡ pos 0 → Satisfies k v rs → Satisfies k v (all_without p e rs)
 satisfies_without k v p e [] h s = tt
-satisfies_without k v p e (r ∷ rs) h s =
-    (value_minus k v r.numbers (λ i. r.numbers p *ℤ e i)
-    ∙ line_less (value k v r.numbers) _ (value_times k v e (r.numbers p) ∙ times_nothing (value k v e) (r.numbers p) h) ∙ s.0,
-    satisfies_without k v p e rs h s.1)
+satisfies_without k v p e (r ∷ rs) h s = (
+  value_minus k v r.numbers (λ i. r.numbers p *ℤ e i)
+      ∙ line_less (value k v r.numbers) _ (value_times k v e (r.numbers p) ∙ times_nothing (value k v e) (r.numbers p) h) ∙ s.0,
+  satisfies_without k v p e rs h s.1,
+)
 
 satisfies_extended : (k : ℕ) (v : Numbers) (rs : List Row) (n : Numbers) (o : Option ℕ) → value k v n ≡ pos 0 → Satisfies k v rs → Satisfies k v (extended rs n o)
 satisfies_extended k v rs n None h s = s

@@ -44,3 +44,9 @@ kept_next rs t NoPivot ns = normal rs t ∷ opposite (normal rs t) ∷ ns
 -- where no bound has the pivot, they are in normal form already
 abbrev pub Leaves : List Row → Took → List Numbers → Type 0
 Leaves rs k ns = (s : Sym) → k ≡ Pivot s → some_have (suc s.0) ns ≡ false → map (normal rs) ns ≡ ns
+
+abbrev pub is_absurd : Took → Bool
+is_absurd (Pivot s) = false
+is_absurd Trivial = false
+is_absurd Absurd = true
+is_absurd NoPivot = false

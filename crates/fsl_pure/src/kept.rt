@@ -51,10 +51,16 @@ impl Kept {
         })
     }
 
+    /// Each bound is one that a `Lin` holds: a fact for callers, and no code.
+    pub fn fit(&self)
+        ensures { all_fit (map part self.now) ≡ true }
+    {
+        let _refuted = self.refuted;
+    }
+
     /// Whether the bounds contradict each other.
     pub fn refuted(&self) -> bool
-        ensures told { result ≡ contradict (map part self.now) }
-        ensures fit { all_fit (map part self.now) ≡ true }
+        ensures { result ≡ contradict (map part self.now) }
     {
         self.refuted
     }

@@ -6,9 +6,13 @@ mod difference;
 mod equated;
 mod fault;
 mod kept;
+mod known;
+mod next;
+mod pure;
 mod push;
 mod shared;
 mod sums;
 mod table;
 
 pub use fault::PureFault;
+pub use pure::Pure;
