@@ -26,7 +26,7 @@ start_only : (t : Bool) (a : ℤ) → cond t (Some (pos 0)) None ≡ Some a → 
 start_only true a h = (refl, cc)
 start_only false a h = absurd (let g : None ≡ Some a = h in cc)
 
-contains_first : (e : Edge) (es : List Edge) → Contains (e ∷ es) e
+pub contains_first : (e : Edge) (es : List Edge) → Contains (e ∷ es) e
 contains_first e es = Contains-append_left (e ∷ []) es e (Contains-push [] e)
 
 -- each total is that of a walk

@@ -1,5 +1,5 @@
 -- Arrays of the numbers of a term.
-use Rattle.std.proofs.Common.{◌≡◌, ℕ, zero, suc, ◌+◌, ◌<◌, ◌≤◌, ◌^◌, Bool, true, false, ◌&&◌, inl, inr, List, [], ◌∷◌, ◌++◌, length, get_or, set, take, ℤ, pos, ◌*ℤ◌, ◌+ℤ◌, ◌-ℤ◌, refl, sym, ap, ◌∙◌, add-one, arith}
+use Rattle.std.proofs.Common.{◌≡◌, ℕ, zero, suc, ◌+◌, ◌<◌, ◌≤◌, ◌^◌, Bool, true, false, ◌&&◌, inl, inr, List, [], ◌∷◌, ◌++◌, length, get_or, set, take, ℤ, pos, ◌*ℤ◌, ◌+ℤ◌, ◌-ℤ◌, refl, sym, ap, subst, ◌∙◌, add-one, arith}
 use Rattle.std.proofs.lemmas.List.{get_or-set_same, get_or-set_other, get_or_past, take_more, take_all}
 use Rattle.std.proofs.lemmas.Bool.{cases_eq, cases_lt}
 use Rattle.std.proofs.lemmas.Int.{ints}
@@ -22,6 +22,14 @@ set_step ns n k x within before here j h =
     elim (cases_eq j k) [
       | inl e ↦ ap (λ (i : ℕ). get_or (set ns k x) i (pos 0)) e ∙ get_or-set_same ns k x (pos 0) within ∙ here ∙ sym (ap n e)
       | inr d ↦ get_or-set_other ns k j x (pos 0) d ∙ before j (omega arith)
+    ]
+
+pub set_keeps : (P : ℤ → Type 0) (ns : List ℤ) (k : ℕ) (x : ℤ) → k < length ns → ((j : ℕ) → j < k → P (listed ns j)) → P x
+    → (j : ℕ) → j < k + 1 → P (listed (set ns k x) j)
+set_keeps P ns k x within before here j h =
+    elim (cases_eq j k) [
+      | inl e ↦ subst P (sym (ap (λ (i : ℕ). get_or (set ns k x) i (pos 0)) e ∙ get_or-set_same ns k x (pos 0) within)) here
+      | inr d ↦ subst P (sym (get_or-set_other ns k j x (pos 0) d)) (before j (omega arith))
     ]
 
 -- past the last place a term has 0
@@ -49,6 +57,10 @@ listed_is ns n whole below past =
     let each : (i : ℕ) → listed ns i ≡ n i =
     λ i. elim (cases_lt i (length ns)) [ inl l ↦ below i l | inr l ↦ get_or_past ns i (pos 0) l ∙ sym (past i (omega arith)) ] in
     λ j i. each i j
+
+-- what holds of 0 and of each number of an array holds at every place
+pub listed_all : (P : ℤ → Type 0) (ns : List ℤ) → P (pos 0) → ((i : ℕ) → i < length ns → P (listed ns i)) → (i : ℕ) → P (listed ns i)
+listed_all P ns past below i = elim (cases_lt i (length ns)) [ inl l ↦ below i l | inr l ↦ subst P (sym (get_or_past ns i (pos 0) l)) past ]
 
 and_swap : (x y z : Bool) → (x && (y && z)) ≡ (y && (x && z))
 and_swap true y z = refl

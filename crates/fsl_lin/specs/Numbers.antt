@@ -1,5 +1,5 @@
 -- A term as the numbers of its places: place 0 has the constant, and place s + 1 the coefficient of symbol s.
-use Rattle.std.specs.Prelude.{ℕ, zero, suc, ◌^◌, Bool, true, ◌&&◌, ℤ, pos, neg_ℤ, List, get_or, ◌*ℤ◌}
+use Rattle.std.specs.Prelude.{ℕ, zero, suc, ◌^◌, Bool, true, ◌&&◌, ℤ, pos, neg_ℤ, List, get_or, ◌+ℤ◌, ◌-ℤ◌, ◌*ℤ◌}
 use Rattle.std.specs.Ordering.{int_eq}
 use Rattle.fsl_lin.specs.Combination.{Combination, coefficient, is_within}
 
@@ -21,6 +21,11 @@ none i = pos 0
 -- the numbers of -t
 abbrev pub opposite : Numbers → Numbers
 opposite n i = neg_ℤ (n i)
+
+-- the numbers of a - b + gap
+abbrev pub gapped : Numbers → Numbers → ℤ → Numbers
+gapped a b gap zero = (a zero -ℤ b zero) +ℤ gap
+gapped a b gap (suc s) = a (suc s) -ℤ b (suc s)
 
 -- the same number at each place from 1 to k
 abbrev pub same_above : ℕ → Numbers → Numbers → Bool

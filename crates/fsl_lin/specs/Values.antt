@@ -26,3 +26,7 @@ AllHold v (f ∷ fs) = Holds v f × AllHold v fs
 abbrev pub Satisfies : ℕ → Numbers → List Row → Type 0
 Satisfies k v [] = Unit {0}
 Satisfies k v (r ∷ rs) = (value k v r.numbers ≡ pos 0) × Satisfies k v rs
+
+-- P holds under every valuation in whole numbers that satisfies the facts
+abbrev pub Follows : List Fact → (Numbers → Type 0) → Type 0
+Follows fs P = (v : Numbers) → v 0 ≡ pos 1 → AllHold v fs → P v

@@ -1,14 +1,15 @@
 //! Equations between terms, kept reduced: each has a pivot, a symbol that stands in no other equation.
-ghost use Rattle.std.specs.Prelude.{◌≡◌, ℕ, ◌≤◌, IfOk, OnOk, OnErr, IsErrOf, true, false, [], length};
-ghost use Rattle.fsl_lin.specs.Numbers.{Numbers, part, fits};
+ghost use Rattle.std.specs.Prelude.{◌≡◌, ℕ, ◌≤◌, ◌^◌, IfOk, OnOk, OnErr, IsErrOf, true, false, [], length};
+ghost use Rattle.fsl_lin.specs.Numbers.{Numbers, part, fits, listed};
 ghost use Rattle.fsl_lin.specs.Rows.{normal, IsNormalForm, assumed, rows_fit, took};
-ghost use Rattle.fsl_lin.specs.Equations.{AreNarrow, rows_of};
+ghost use Rattle.fsl_lin.specs.Equations.{rows_of};
+ghost use Rattle.fsl_lin.specs.Sizes.{IsSize};
 
 use crate::equation::{Equation, copied};
 use crate::extend::step;
 use crate::fault::LinFault;
 use crate::lin::Lin;
-use crate::normal::normal_of;
+use crate::normal::{fill, normal_of};
 use crate::step::Step;
 use crate::took::Took;
 use fsl_base::TryClone;
@@ -53,6 +54,16 @@ impl Eqs {
         ensures wide { IsErrOf result LinFault.Wide → fits (normal (rows_of self.now) (part t.now)) ≡ false }
     {
         normal_of(alloc, self.equations.as_slice(), t)
+    }
+
+    /// Writes the numbers of the normal form of a term into an array of all places, each exact, whatever its
+    /// size. It takes no memory.
+    pub fn fill(&self, t: &Lin, numbers: &mut [i128])
+        requires { length numbers.old ≡ 513 }
+        ensures value { listed numbers.new ≡ normal (rows_of self.now) (part t.now) }
+        ensures size { (i : ℕ) → IsSize (2 ^ 124) (listed numbers.new i) }
+    {
+        fill(self.equations.as_slice(), t, numbers);
     }
 
     /// Assumes `t = 0`. For want of memory, and where a number of the reduced equations would pass its bound,

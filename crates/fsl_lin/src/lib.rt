@@ -26,5 +26,7 @@ pub use equation::Equation;
 pub use fact::Fact;
 pub use fault::LinFault;
 pub use lin::Lin;
+pub use normal::PLACES;
+pub use places::is_constant;
 pub use sym::Sym;
 pub use took::Took;

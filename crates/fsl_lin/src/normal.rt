@@ -49,7 +49,8 @@ pub fn fill(equations: &[Equation], t: &Lin, numbers: &mut [i128])
     requires few { length equations.now ≤ 512 }
     requires narrow { AreNarrow equations.now }
     requires whole { length numbers.old ≡ 513 }
-    ensures { listed numbers.new ≡ normal (rows_of equations.now) (part t.now) }
+    ensures value { listed numbers.new ≡ normal (rows_of equations.now) (part t.now) }
+    ensures size { (i : ℕ) → IsSize (2 ^ 124) (listed numbers.new i) }
 {
     let _width = t.width();
     fill_places(equations, t, numbers);
@@ -58,7 +59,8 @@ pub fn fill(equations: &[Equation], t: &Lin, numbers: &mut [i128])
 /// Writes the normal form of a term into an array, place by place.
 fn fill_places(equations: &[Equation], t: &Lin, numbers: &mut [i128])
     requires { length equations.now ≤ 512 }
-    ensures { (i : ℕ) → i < length numbers.new → listed numbers.new i ≡ normal (rows_of equations.now) (part t.now) i }
+    ensures value { (i : ℕ) → i < length numbers.new → listed numbers.new i ≡ normal (rows_of equations.now) (part t.now) i }
+    ensures size { (i : ℕ) → i < length numbers.new → IsSize (2 ^ 124) (listed numbers.new i) }
 {
     for i in 0..numbers.len() {
         numbers[i] = normal_at(equations, t, i);

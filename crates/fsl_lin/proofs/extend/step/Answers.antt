@@ -30,7 +30,7 @@ symbol_at-requires-clause-high c =
 
 pub returns-in-Ok-clause-exact : goal.returns-in-Ok-clause-exact
 returns-in-Ok-clause-exact c =
-    let same : listed c.fill.new.numbers ≡ normal (rows_of c.args.equations.now) (part c.args.t.now) = c.fill.ensures in
+    let same : listed c.fill.new.numbers ≡ normal (rows_of c.args.equations.now) (part c.args.t.now) = c.fill.ensures.value in
     let at : pivot_below most (normal (rows_of c.args.equations.now) (part c.args.t.now)) ≡ Some c.in-Some.place =
     ap (pivot_below most) (sym same) ∙ sym c.in-Some.ensures in
     let pivot : IsPivot most (listed c.fill.new.numbers) c.in-Some.place = pivot_is most (listed c.fill.new.numbers) c.in-Some.place (sym c.in-Some.ensures) in
@@ -50,14 +50,14 @@ returns-in-Ok-clause-exact c =
 pub returns-in-Err-clause-wide : goal.returns-in-Err-clause-wide
 returns-in-Err-clause-wide c h =
     let f : c.in-Err.fault ≡ Wide = cc in
-    let same : listed c.fill.new.numbers ≡ normal (rows_of c.args.equations.now) (part c.args.t.now) = c.fill.ensures in
+    let same : listed c.fill.new.numbers ≡ normal (rows_of c.args.equations.now) (part c.args.t.now) = c.fill.ensures.value in
     let at : pivot_below most (normal (rows_of c.args.equations.now) (part c.args.t.now)) ≡ Some c.in-Some.place =
     ap (pivot_below most) (sym same) ∙ sym c.in-Some.ensures in
     ap rows_fit (λ j. extended (rows_of c.args.equations.now) (sym same j) (at j)) ∙ c.in-Err.ensures.wide (ap Err f)
 
 pub returns-in-None-clause-exact : goal.returns-in-None-clause-exact
 returns-in-None-clause-exact c =
-    let same : listed c.fill.new.numbers ≡ normal (rows_of c.args.equations.now) (part c.args.t.now) = c.fill.ensures in
+    let same : listed c.fill.new.numbers ≡ normal (rows_of c.args.equations.now) (part c.args.t.now) = c.fill.ensures.value in
     let at : pivot_below most (normal (rows_of c.args.equations.now) (part c.args.t.now)) ≡ None =
     ap (pivot_below most) (sym same) ∙ sym c.in-None.ensures in
     record {

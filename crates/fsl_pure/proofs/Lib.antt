@@ -1,0 +1,11 @@
+pub mod Ends
+pub mod Follows
+pub mod Gaps
+pub mod Held
+pub mod InPlace
+pub mod Linear
+pub mod Proving
+pub mod Reversed
+pub mod Sound
+pub mod Tabled
+pub mod Walked

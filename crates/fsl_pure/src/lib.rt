@@ -1,0 +1,18 @@
+//! What is known at a place of a path: equations and bounds that were assumed, and what they prove.
+#![tactic(auto)]
+
+mod bound;
+mod difference;
+mod equated;
+mod fault;
+mod kept;
+mod known;
+mod next;
+mod pure;
+mod push;
+mod shared;
+mod sums;
+mod table;
+
+pub use fault::PureFault;
+pub use pure::Pure;
