@@ -6,7 +6,13 @@ mod assertion;
 mod declaration;
 mod expression;
 mod file;
+mod following;
 mod right_side;
+mod spell_assertions;
+mod spell_declarations;
+mod spell_expressions;
+mod spell_right_sides;
+mod spell_statements;
 mod statement;
 
 pub use assertion::{Assertion, Atom, BankWord, Conjunct, Pattern, Relation, Share};
@@ -22,4 +28,5 @@ pub use file::File;
 pub use right_side::{
     Allocation, Mode, RightSide, SharedCell, Step, StepLine, StepWord, UpdateWord, With,
 };
+pub use spell_declarations::spell;
 pub use statement::{Block, FenceKind, Otherwise, ParallelCall, ReleaseWord, Statement};
