@@ -7,6 +7,7 @@ mod declaration;
 mod expression;
 mod file;
 mod following;
+mod printing;
 mod right_side;
 mod spell_assertions;
 mod spell_declarations;
@@ -25,6 +26,7 @@ pub use expression::{
     Term, Use,
 };
 pub use file::File;
+pub use printing::print;
 pub use right_side::{
     Allocation, Mode, RightSide, SharedCell, Step, StepLine, StepWord, UpdateWord, With,
 };
