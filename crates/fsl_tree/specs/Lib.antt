@@ -3,3 +3,4 @@ pub mod SpelledAssertions
 pub mod SpelledStatements
 pub mod Spelling
 pub mod Nesting
+pub mod Printing

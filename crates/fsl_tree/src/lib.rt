@@ -6,7 +6,14 @@ mod assertion;
 mod declaration;
 mod expression;
 mod file;
+mod following;
+mod printing;
 mod right_side;
+mod spell_assertions;
+mod spell_declarations;
+mod spell_expressions;
+mod spell_right_sides;
+mod spell_statements;
 mod statement;
 
 pub use assertion::{Assertion, Atom, BankWord, Conjunct, Pattern, Relation, Share};
@@ -19,7 +26,9 @@ pub use expression::{
     Term, Use,
 };
 pub use file::File;
+pub use printing::print;
 pub use right_side::{
     Allocation, Mode, RightSide, SharedCell, Step, StepLine, StepWord, UpdateWord, With,
 };
+pub use spell_declarations::spell;
 pub use statement::{Block, FenceKind, Otherwise, ParallelCall, ReleaseWord, Statement};

@@ -1,0 +1,8 @@
+use Rattle.std.proofs.Common.{◌≡◌, map}
+use Rattle.fsl_tree.specs.SpelledExpressions.{all}
+use Rattle.fsl_tree.specs.Spelling.{next_parameter}
+use Rattle.fsl_tree.proofs.following.Following.next_parameters.Given as goal
+
+-- what is left, in front of what is there, is the whole
+abbrev pub invariant-loop-part : goal.invariant-loop-part
+invariant-loop-part l = all (map next_parameter l.part-iterator.iter.rest.now) l.self ≡ all (map next_parameter l.parts) l.fn.self

@@ -1,0 +1,41 @@
+-- The text of a tree: the texts of its tokens, one space between two, and LF at the end.
+use Rattle.std.specs.Prelude.{ℕ, ◌-◌, ◌≡◌, ◌≤◌, List, [], ◌∷◌, ◌++◌, Option, Some, None, length, take, drop}
+use Rattle.std.specs.Fmt.{decimal}
+use Rattle.std.specs.Str.{IsUtf8}
+use Rattle.fsl_base.specs.declared.span.Span.{Span}
+use Rattle.fsl_token.specs.declared.kind.Token.{Token}
+use Rattle.fsl_token.specs.declared.kind.TokenKind.{TokenKind}
+use Rattle.fsl_token.specs.declared.kind.TokenKind.TheVariants as kind
+use Rattle.fsl_token.specs.Words.{fixed_text}
+use Rattle.fsl_token.specs.Reading.{IsName}
+use Rattle.fsl_tree.specs.SpelledExpressions.{Tokens}
+
+-- the bytes of a span
+abbrev pub part_of : List ℕ → Span → List ℕ
+part_of bytes span = take (span.to - span.from) (drop span.from bytes)
+
+-- a word or a symbol has its text; else it is a number, or a name, whose text is that of its span
+abbrev pub variable_text : List ℕ → TokenKind → Span → ℕ → List ℕ
+variable_text bytes kind.Number span number = decimal number
+variable_text bytes _ span number = part_of bytes span
+
+abbrev pub text_or : Option (List ℕ) → List ℕ → List ℕ
+text_or (Some text) other = text
+text_or None other = other
+
+abbrev pub token_text : List ℕ → Token → List ℕ
+token_text bytes t = text_or (fixed_text t.kind) (variable_text bytes t.kind t.span t.number)
+
+abbrev pub printed : List ℕ → Tokens → List ℕ
+printed bytes [] = 10 ∷ []
+printed bytes (t ∷ []) = token_text bytes t ++ 10 ∷ []
+printed bytes (t ∷ u ∷ ts) = token_text bytes t ++ 32 ∷ printed bytes (u ∷ ts)
+
+-- a name stands at its span, and a number is one that can be written
+pub record IsHeld (bytes : List ℕ) (t : Token) : Type 0 where
+  pub name : t.kind ≡ kind.Name → (t.span.from ≤ t.span.to) × (t.span.to ≤ length bytes) × IsUtf8 (part_of bytes t.span) × IsName t.kind t.number (part_of bytes t.span)
+  pub number : t.kind ≡ kind.Number → t.number ≤ 9223372036854775808
+
+abbrev pub AreHeld : List ℕ → Tokens → Type 0
+AreHeld bytes [] = Unit {0}
+AreHeld bytes (t ∷ ts) = IsHeld bytes t × AreHeld bytes ts
