@@ -1,4 +1,4 @@
-use crate::{Eqs, Lin, LinFault, Sym, Took};
+use crate::{Eqs, Lin, LinFault, PLACES, Sym, Took, is_constant};
 use fsl_base::{Same, TryClone};
 
 /// Coefficients go up to 2^24, and no further.
@@ -48,6 +48,10 @@ fn equations_are_reduced(rt: HostRuntime) {
     assert_eq!(rt; normal.coefficient(Sym(0)), 0, "no pivot");
     assert_eq!(rt; normal.coefficient(Sym(1)), 2, "2 s1");
     assert_eq!(rt; normal.rest(), -1, "- 1");
+    let mut numbers = [0i128; PLACES];
+    eqs.fill(&s0, &mut numbers);
+    assert!(rt; numbers[0] == -1 && numbers[2] == 2, "the same in an array");
+    assert!(rt; !is_constant(&numbers), "s1 has 2");
     let mut copy = eqs.try_clone(alloc).expect(&rt, "memory");
     assert!(rt; copy.assume(alloc, &equation) == Ok(Took::Trivial), "again");
     assert!(rt;

@@ -13,6 +13,8 @@ mod push;
 mod shared;
 mod sums;
 mod table;
+#[cfg(test)]
+mod tests;
 
 pub use fault::PureFault;
 pub use pure::Pure;
