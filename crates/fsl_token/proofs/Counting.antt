@@ -8,7 +8,7 @@ use Rattle.std.specs.Char.{is_newline, encode_utf8}
 use Rattle.std.specs.List.{count_by, suffix_len, prefix_len}
 use Rattle.std.specs.Str.{IsUtf8, IsCharBoundary, chars, encode_utf8_all}
 use Rattle.fsl_token.specs.declared.places.Place.{Place}
-use Rattle.fsl_token.specs.Places.{place_behind, place_of, is_continuation, next_line, next_col, after_byte, walk_bytes}
+use Rattle.fsl_token.specs.Places.{place_behind, place_of, is_continuation, next_line, next_col, walk_bytes}
 
 -- the place behind one more character
 abbrev after : Place → ℕ → Place

@@ -1,5 +1,5 @@
 -- The tokens say what the text is.
-use Rattle.std.proofs.Common.{◌≡◌, ℕ, zero, suc, ◌+◌, ◌-◌, ◌<◌, ◌≤◌, ◌⊎◌, inl, inr, Bool, true, false, List, [], ◌∷◌, ◌++◌, Option, Some, None, length, take, drop, get_or, ⊎_elim, refl, sym, ap, ◌∙◌, subst, arith, append_assoc, length-append, length-drop, length-take-le, take-append-drop, nat_eq, nat_lt, nat_le, not}
+use Rattle.std.proofs.Common.{◌≡◌, ℕ, zero, suc, ◌+◌, ◌<◌, ◌≤◌, ◌⊎◌, inl, inr, Bool, true, List, [], ◌∷◌, ◌++◌, Option, Some, None, length, take, drop, get_or, ⊎_elim, refl, sym, ap, ◌∙◌, subst, arith, append_assoc, length-append, length-drop, length-take-le, take-append-drop, nat_eq, nat_lt, nat_le, not}
 use Rattle.std.specs.Prelude.{Result, Ok, Err, IfOk, codes}
 use Rattle.std.proofs.lemmas.Bool.{leb-true, false≢true}
 use Rattle.std.proofs.lemmas.Bool.Decides.{Decides-eqb}
@@ -21,7 +21,7 @@ use Rattle.fsl_token.specs.declared.piece.Piece.{Piece}
 use Rattle.fsl_token.specs.Words.{fixed_text, fits, begins, is_text, words, symbols, symbol_kind, word_kind}
 use Rattle.fsl_token.specs.Tokens.{is_blank, begins_comment, comment_len, leading_digits, number_piece, leading_name, name_piece, symbol_piece, first_piece, cons_token, tokens_from}
 use Rattle.fsl_token.specs.Reading.{IsBlank, IsComment, IsBlankOrComment, IsGap, IsTextOf, AreTokensOf}
-use Rattle.fsl_token.proofs.Names.{run_again, name_taken, name_again}
+use Rattle.fsl_token.proofs.Names.{run_again, name_taken, name_again, name_utf8}
 use Rattle.fsl_token.proofs.Pieces.{CutsBy, piece_cut, either, found}
 use Rattle.fsl_token.proofs.Lexing.{tokens_step, tokens_fault}
 
@@ -61,13 +61,13 @@ fixed_is None text same = absurd (false≢true same)
 fixed_is (Some fixed) text same = ap Some (sym ((bytes_eq-Decides text fixed).0 same))
 
 -- a name or a reserved word
-word_says : (name : List ℕ) → leading_name name ≡ name → length name ≤ 64 → IsTextOf (word_kind name) 0 name
-word_says name whole short = found (λ o. unwrap_or o TokenKind.Name ≡ word_kind name → IsTextOf (unwrap_or o TokenKind.Name) 0 name) (is_text name) (λ _. true) words refl
-    (λ e. inr (inl (refl, sym e, whole, short, refl))) (λ kind same _ _. inl (fixed_is (fixed_text kind) name same, refl)) refl
+word_says : (name : List ℕ) → leading_name name ≡ name → length name ≤ 64 → IsUtf8 name → IsTextOf (word_kind name) 0 name
+word_says name whole short utf8 = found (λ o. unwrap_or o TokenKind.Name ≡ word_kind name → IsTextOf (unwrap_or o TokenKind.Name) 0 name) (is_text name) (λ _. true) words refl
+    (λ e. inr (inl (refl, sym e, whole, short, refl, utf8))) (λ kind same _ _. inl (fixed_is (fixed_text kind) name same, refl)) refl
 
 name_says : (text : List ℕ) → IsUtf8 text → Says text (name_piece (leading_name text))
 name_says text utf8 = either (Says text) (nat_le (length (leading_name text)) 64) (Piece.Token (word_kind (leading_name text)) (length (leading_name text)) 0) Piece.LongName
-    (λ short. subst (IsTextOf (word_kind (leading_name text)) 0) (sym (name_taken text (length (leading_name text)) utf8 refl).1) (word_says (leading_name text) (name_again text utf8) (leb-true _ _ short))) (λ _. tt)
+    (λ short. subst (IsTextOf (word_kind (leading_name text)) 0) (sym (name_taken text (length (leading_name text)) utf8 refl).1) (word_says (leading_name text) (name_again text utf8) (leb-true _ _ short) (name_utf8 text utf8))) (λ _. tt)
 
 symbol_is : (o : Option (List ℕ)) (text : List ℕ) → fits o (starts_with nat_eq text) ≡ true → o ≡ Some (take (length (unwrap_or o [])) text)
 symbol_is None text begun = absurd (false≢true begun)

@@ -98,3 +98,6 @@ pub name_again : (text : List ℕ) → IsUtf8 text → leading_name (leading_nam
 name_again text utf8 =
     let whole : chars (leading_name text) ≡ name_chars (chars text) = chars-encodes (name_chars (chars text)) (scalars_before (name_chars (chars text)) _ (ap scalars (name_chars_split (chars text)) ∙ scalars-chars text utf8)) in
     ap (λ cs. encode_utf8_all (name_chars cs)) whole ∙ ap encode_utf8_all (name_chars_again (chars text))
+
+pub name_utf8 : (text : List ℕ) → IsUtf8 text → IsUtf8 (leading_name text)
+name_utf8 text utf8 = (name_chars (chars text), (scalars_before (name_chars (chars text)) _ (ap scalars (name_chars_split (chars text)) ∙ scalars-chars text utf8), refl))

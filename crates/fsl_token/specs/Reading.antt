@@ -1,6 +1,7 @@
 -- What tokens say of the text that they were cut from: it is a gap, the first token's text, a gap, and so on.
 use Rattle.std.specs.Prelude.{◌≡◌, ℕ, ◌+◌, ◌<◌, ◌≤◌, ◌⊎◌, true, List, [], ◌∷◌, ◌++◌, Some, length, codes, All}
 use Rattle.std.specs.List.{concat}
+use Rattle.std.specs.Str.{IsUtf8}
 use Rattle.std.specs.Str.Parse.{digits_value}
 use Rattle.fsl_token.specs.declared.kind.Token.{Token}
 use Rattle.fsl_token.specs.declared.kind.TokenKind.{TokenKind}
@@ -25,9 +26,9 @@ IsGap gap = (parts : List (List ℕ)) × (concat parts ≡ gap) × All IsBlankOr
 abbrev pub IsFixed : TokenKind → ℕ → List ℕ → Type 0
 IsFixed kind number text = (fixed_text kind ≡ Some text) × (number ≡ 0)
 
--- a name that is no reserved word
+-- a name that is no reserved word, as UTF-8
 abbrev pub IsName : TokenKind → ℕ → List ℕ → Type 0
-IsName kind number text = (kind ≡ TokenKind.Name) × (word_kind text ≡ TokenKind.Name) × (leading_name text ≡ text) × (length text ≤ 64) × (number ≡ 0)
+IsName kind number text = (kind ≡ TokenKind.Name) × (word_kind text ≡ TokenKind.Name) × (leading_name text ≡ text) × (length text ≤ 64) × (number ≡ 0) × IsUtf8 text
 
 -- digits, with the number that they write
 abbrev pub IsNumber : TokenKind → ℕ → List ℕ → Type 0

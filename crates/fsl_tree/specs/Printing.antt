@@ -1,13 +1,12 @@
 -- The text of a tree: the texts of its tokens, one space between two, and LF at the end.
 use Rattle.std.specs.Prelude.{ℕ, ◌-◌, ◌≡◌, ◌≤◌, List, [], ◌∷◌, ◌++◌, Option, Some, None, length, take, drop}
 use Rattle.std.specs.Fmt.{decimal}
-use Rattle.std.specs.Str.{IsUtf8}
 use Rattle.fsl_base.specs.declared.span.Span.{Span}
 use Rattle.fsl_token.specs.declared.kind.Token.{Token}
 use Rattle.fsl_token.specs.declared.kind.TokenKind.{TokenKind}
 use Rattle.fsl_token.specs.declared.kind.TokenKind.TheVariants as kind
 use Rattle.fsl_token.specs.Words.{fixed_text}
-use Rattle.fsl_token.specs.Reading.{IsName}
+use Rattle.fsl_token.specs.Reading.{IsName, AreTokensOf}
 use Rattle.fsl_tree.specs.SpelledExpressions.{Tokens}
 
 -- the bytes of a span
@@ -33,9 +32,13 @@ printed bytes (t ∷ u ∷ ts) = token_text bytes t ++ 32 ∷ printed bytes (u �
 
 -- a name stands at its span, and a number is one that can be written
 pub record IsHeld (bytes : List ℕ) (t : Token) : Type 0 where
-  pub name : t.kind ≡ kind.Name → (t.span.from ≤ t.span.to) × (t.span.to ≤ length bytes) × IsUtf8 (part_of bytes t.span) × IsName t.kind t.number (part_of bytes t.span)
+  pub name : t.kind ≡ kind.Name → (t.span.from ≤ t.span.to) × (t.span.to ≤ length bytes) × IsName t.kind t.number (part_of bytes t.span)
   pub number : t.kind ≡ kind.Number → t.number ≤ 9223372036854775808
 
 abbrev pub AreHeld : List ℕ → Tokens → Type 0
 AreHeld bytes [] = Unit {0}
 AreHeld bytes (t ∷ ts) = IsHeld bytes t × AreHeld bytes ts
+
+-- the tokens that a text was cut into are held by it
+abbrev pub TokensAreHeld : Type 0
+TokensAreHeld = (bytes : List ℕ) (tokens : Tokens) → AreTokensOf 0 bytes tokens → AreHeld bytes tokens

@@ -7,6 +7,7 @@ mod declaration;
 mod expression;
 mod file;
 mod following;
+pub mod laws;
 mod printing;
 mod right_side;
 mod spell_assertions;
@@ -32,3 +33,6 @@ pub use right_side::{
 };
 pub use spell_declarations::spell;
 pub use statement::{Block, FenceKind, Otherwise, ParallelCall, ReleaseWord, Statement};
+
+#[cfg(test)]
+mod tests;

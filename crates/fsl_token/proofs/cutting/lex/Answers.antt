@@ -1,4 +1,4 @@
-use Rattle.std.proofs.Common.{◌⊎◌, inl, inr, ⊎_elim, ◌∙◌, ap}
+use Rattle.std.proofs.Common.{inl, inr, ⊎_elim, ◌∙◌, ap}
 use Rattle.fsl_token.specs.Tokens.{tokens_from}
 use Rattle.fsl_token.proofs.Law.{answer_reads}
 use Rattle.fsl_token.proofs.Lexing.{lexed_text, lexed_not_text}

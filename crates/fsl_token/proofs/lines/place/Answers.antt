@@ -1,6 +1,5 @@
 use Rattle.std.proofs.Common.{◌≡◌, [], drop, sym, ap, ◌∙◌}
 use Rattle.std.proofs.Math.ListN.{drop_of_length-le}
-use Rattle.fsl_token.specs.declared.places.Place.{Place}
 use Rattle.fsl_token.specs.Places.{walk_bytes}
 use Rattle.fsl_token.proofs.Counting.{bytes_place}
 use Rattle.fsl_token.proofs.lines.place.Goals as goal

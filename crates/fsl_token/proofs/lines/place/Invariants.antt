@@ -1,5 +1,4 @@
-use Rattle.std.proofs.Common.{◌≡◌, ◌+◌, ◌≤◌, drop, take}
-use Rattle.fsl_token.specs.declared.places.Place.{Place}
+use Rattle.std.proofs.Common.{◌≡◌, ◌+◌, ◌≤◌, drop}
 use Rattle.fsl_token.specs.Places.{walk_bytes, place_at}
 use Rattle.fsl_token.proofs.lines.place.Given as goal
 
