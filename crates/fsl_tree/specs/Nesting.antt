@@ -71,19 +71,19 @@ multiplier_depth m = m.factor
 abbrev pub term_depth : Term-F ℕ ℕ ℕ ℕ ℕ → ℕ
 term_depth t = max t.first (greatest t.more)
 
-abbrev pub in_factor : Factor → ℕ
+unfoldable pub in_factor : Factor → ℕ
 in_factor = fold-Factor ℕ ℕ ℕ ℕ ℕ factor_depth addend_depth expression_depth multiplier_depth term_depth
 
-abbrev pub in_addend : Addend → ℕ
+unfoldable pub in_addend : Addend → ℕ
 in_addend = fold-Addend ℕ ℕ ℕ ℕ ℕ factor_depth addend_depth expression_depth multiplier_depth term_depth
 
-abbrev pub in_expression : Expression → ℕ
+unfoldable pub in_expression : Expression → ℕ
 in_expression = fold-Expression ℕ ℕ ℕ ℕ ℕ factor_depth addend_depth expression_depth multiplier_depth term_depth
 
-abbrev pub in_multiplier : Multiplier → ℕ
+unfoldable pub in_multiplier : Multiplier → ℕ
 in_multiplier = fold-Multiplier ℕ ℕ ℕ ℕ ℕ factor_depth addend_depth expression_depth multiplier_depth term_depth
 
-abbrev pub in_term : Term → ℕ
+unfoldable pub in_term : Term → ℕ
 in_term = fold-Term ℕ ℕ ℕ ℕ ℕ factor_depth addend_depth expression_depth multiplier_depth term_depth
 
 abbrev pub in_condition : Condition → ℕ
@@ -137,13 +137,13 @@ assertion_depth a = max a.first (greatest a.more)
 abbrev pub conjunct_depth : Conjunct-F ℕ ℕ ℕ → ℕ
 conjunct_depth c = c.atom
 
-abbrev pub in_atom : Atom → ℕ
+unfoldable pub in_atom : Atom → ℕ
 in_atom = fold-Atom ℕ ℕ ℕ atom_depth assertion_depth conjunct_depth
 
-abbrev pub in_assertion : Assertion → ℕ
+unfoldable pub in_assertion : Assertion → ℕ
 in_assertion = fold-Assertion ℕ ℕ ℕ atom_depth assertion_depth conjunct_depth
 
-abbrev pub in_conjunct : Conjunct → ℕ
+unfoldable pub in_conjunct : Conjunct → ℕ
 in_conjunct = fold-Conjunct ℕ ℕ ℕ atom_depth assertion_depth conjunct_depth
 
 -- ---- statements
@@ -219,13 +219,13 @@ block_depth b = 1 + greatest b.statements
 abbrev pub otherwise_depth : Otherwise-F ℕ ℕ ℕ → ℕ
 otherwise_depth o = o.block
 
-abbrev pub in_statement : Statement → ℕ
+unfoldable pub in_statement : Statement → ℕ
 in_statement = fold-Statement ℕ ℕ ℕ statement_depth block_depth otherwise_depth
 
-abbrev pub in_block : Block → ℕ
+unfoldable pub in_block : Block → ℕ
 in_block = fold-Block ℕ ℕ ℕ statement_depth block_depth otherwise_depth
 
-abbrev pub in_otherwise : Otherwise → ℕ
+unfoldable pub in_otherwise : Otherwise → ℕ
 in_otherwise = fold-Otherwise ℕ ℕ ℕ statement_depth block_depth otherwise_depth
 
 abbrev pub in_optional_otherwise : Option Otherwise → ℕ

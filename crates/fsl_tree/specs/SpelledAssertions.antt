@@ -74,11 +74,11 @@ conjunct_step c after = fixed kind.Separate c.separate ∷ c.atom after
 
 -- ---- assertions
 
-abbrev pub atom : Atom → Spelled
+unfoldable pub atom : Atom → Spelled
 atom = fold-Atom Spelled Spelled Spelled atom_step assertion_step conjunct_step
 
-abbrev pub assertion : Assertion → Spelled
+unfoldable pub assertion : Assertion → Spelled
 assertion = fold-Assertion Spelled Spelled Spelled atom_step assertion_step conjunct_step
 
-abbrev pub conjunct : Conjunct → Spelled
+unfoldable pub conjunct : Conjunct → Spelled
 conjunct = fold-Conjunct Spelled Spelled Spelled atom_step assertion_step conjunct_step

@@ -68,19 +68,19 @@ term_step t after = t.first (all t.more after)
 
 -- ---- expressions
 
-abbrev pub factor : Factor → Spelled
+unfoldable pub factor : Factor → Spelled
 factor = fold-Factor Spelled Spelled Spelled Spelled Spelled factor_step addend_step expression_step multiplier_step term_step
 
-abbrev pub addend : Addend → Spelled
+unfoldable pub addend : Addend → Spelled
 addend = fold-Addend Spelled Spelled Spelled Spelled Spelled factor_step addend_step expression_step multiplier_step term_step
 
-abbrev pub expression : Expression → Spelled
+unfoldable pub expression : Expression → Spelled
 expression = fold-Expression Spelled Spelled Spelled Spelled Spelled factor_step addend_step expression_step multiplier_step term_step
 
-abbrev pub multiplier : Multiplier → Spelled
+unfoldable pub multiplier : Multiplier → Spelled
 multiplier = fold-Multiplier Spelled Spelled Spelled Spelled Spelled factor_step addend_step expression_step multiplier_step term_step
 
-abbrev pub term : Term → Spelled
+unfoldable pub term : Term → Spelled
 term = fold-Term Spelled Spelled Spelled Spelled Spelled factor_step addend_step expression_step multiplier_step term_step
 
 -- ---- comparisons, arguments and uses

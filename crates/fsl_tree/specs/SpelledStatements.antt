@@ -162,13 +162,13 @@ otherwise_step o after = fixed kind.Else o.word ∷ o.block after
 
 -- ---- statements
 
-abbrev pub statement : Statement → Spelled
+unfoldable pub statement : Statement → Spelled
 statement = fold-Statement Spelled Spelled Spelled statement_step block_step otherwise_step
 
-abbrev pub block : Block → Spelled
+unfoldable pub block : Block → Spelled
 block = fold-Block Spelled Spelled Spelled statement_step block_step otherwise_step
 
-abbrev pub otherwise : Otherwise → Spelled
+unfoldable pub otherwise : Otherwise → Spelled
 otherwise = fold-Otherwise Spelled Spelled Spelled statement_step block_step otherwise_step
 
 abbrev pub optional_otherwise : Option Otherwise → Spelled

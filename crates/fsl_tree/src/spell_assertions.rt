@@ -10,6 +10,7 @@ use std::alloc::AllocError;
 
 impl Following {
     #[cycle(assertion)]
+    #[tactic(auto, unfolding(crate::specs::SpelledAssertions::assertion, crate::specs::SpelledAssertions::conjunct, crate::specs::SpelledAssertions::atom))]
     pub fn assertion(&mut self, part: &Assertion) -> Result<(), AllocError>
         ensures { OnOk result (self.new ≡ assertion part.now self.old) }
     {
@@ -29,6 +30,7 @@ impl Following {
     }
 
     #[cycle(assertion)]
+    #[tactic(auto, unfolding(crate::specs::SpelledAssertions::assertion, crate::specs::SpelledAssertions::conjunct, crate::specs::SpelledAssertions::atom))]
     fn conjunct(&mut self, part: &Conjunct) -> Result<(), AllocError>
         ensures { OnOk result (self.new ≡ conjunct part.now self.old) }
     {
@@ -37,6 +39,7 @@ impl Following {
     }
 
     #[cycle(assertion)]
+    #[tactic(auto, unfolding(crate::specs::SpelledAssertions::assertion, crate::specs::SpelledAssertions::conjunct, crate::specs::SpelledAssertions::atom))]
     fn atom(&mut self, part: &Atom) -> Result<(), AllocError>
         ensures { OnOk result (self.new ≡ atom part.now self.old) }
     {

@@ -21,6 +21,7 @@ impl Following {
     }
 
     #[cycle(expression)]
+    #[tactic(auto, unfolding(crate::specs::SpelledExpressions::expression, crate::specs::SpelledExpressions::addend, crate::specs::SpelledExpressions::term, crate::specs::SpelledExpressions::multiplier, crate::specs::SpelledExpressions::factor))]
     pub fn expression(&mut self, part: &Expression) -> Result<(), AllocError>
         ensures { OnOk result (self.new ≡ expression part.now self.old) }
     {
@@ -40,6 +41,7 @@ impl Following {
     }
 
     #[cycle(expression)]
+    #[tactic(auto, unfolding(crate::specs::SpelledExpressions::expression, crate::specs::SpelledExpressions::addend, crate::specs::SpelledExpressions::term, crate::specs::SpelledExpressions::multiplier, crate::specs::SpelledExpressions::factor))]
     fn addend(&mut self, part: &Addend) -> Result<(), AllocError>
         ensures { OnOk result (self.new ≡ addend part.now self.old) }
     {
@@ -48,6 +50,7 @@ impl Following {
     }
 
     #[cycle(expression)]
+    #[tactic(auto, unfolding(crate::specs::SpelledExpressions::expression, crate::specs::SpelledExpressions::addend, crate::specs::SpelledExpressions::term, crate::specs::SpelledExpressions::multiplier, crate::specs::SpelledExpressions::factor))]
     fn term(&mut self, part: &Term) -> Result<(), AllocError>
         ensures { OnOk result (self.new ≡ term part.now self.old) }
     {
@@ -67,6 +70,7 @@ impl Following {
     }
 
     #[cycle(expression)]
+    #[tactic(auto, unfolding(crate::specs::SpelledExpressions::expression, crate::specs::SpelledExpressions::addend, crate::specs::SpelledExpressions::term, crate::specs::SpelledExpressions::multiplier, crate::specs::SpelledExpressions::factor))]
     fn multiplier(&mut self, part: &Multiplier) -> Result<(), AllocError>
         ensures { OnOk result (self.new ≡ multiplier part.now self.old) }
     {
@@ -75,6 +79,7 @@ impl Following {
     }
 
     #[cycle(expression)]
+    #[tactic(auto, unfolding(crate::specs::SpelledExpressions::expression, crate::specs::SpelledExpressions::addend, crate::specs::SpelledExpressions::term, crate::specs::SpelledExpressions::multiplier, crate::specs::SpelledExpressions::factor))]
     fn factor(&mut self, part: &Factor) -> Result<(), AllocError>
         ensures { OnOk result (self.new ≡ factor part.now self.old) }
     {

@@ -12,6 +12,7 @@ use std::alloc::AllocError;
 
 impl Following {
     #[cycle(statement)]
+    #[tactic(auto, unfolding(crate::specs::SpelledStatements::block, crate::specs::SpelledStatements::statement, crate::specs::SpelledStatements::otherwise))]
     pub fn block(&mut self, part: &Block) -> Result<(), AllocError>
         ensures { OnOk result (self.new ≡ block part.now self.old) }
     {
@@ -32,6 +33,7 @@ impl Following {
     }
 
     #[cycle(statement)]
+    #[tactic(auto, unfolding(crate::specs::SpelledStatements::block, crate::specs::SpelledStatements::statement, crate::specs::SpelledStatements::otherwise))]
     fn statement(&mut self, part: &Statement) -> Result<(), AllocError>
         ensures { OnOk result (self.new ≡ statement part.now self.old) }
     {
@@ -203,6 +205,7 @@ impl Following {
     }
 
     #[cycle(statement)]
+    #[tactic(auto, unfolding(crate::specs::SpelledStatements::block, crate::specs::SpelledStatements::statement, crate::specs::SpelledStatements::otherwise))]
     fn otherwise(&mut self, part: &Otherwise) -> Result<(), AllocError>
         ensures { OnOk result (self.new ≡ otherwise part.now self.old) }
     {
