@@ -7,7 +7,7 @@ use denote.Enum.Bare.{sameb, true_same}
 use Rattle.fsl_tree.specs.SpelledExpressions.{Tokens, Spelled, fixed, all}
 use Rattle.fsl_tree.specs.Nesting.{greatest}
 use Rattle.fsl_parse.specs.Heads.{is_fixed, is_next}
-use Rattle.fsl_parse.proofs.Readers.{Outcome, Found, Reader, bind, take, open_at, many}
+use Rattle.fsl_parse.specs.Readers.{Outcome, Found, Reader, bind, take, open_at, many}
 
 pub record Reads {A : Type 0} (reader : Reader A) (spelled : Spelled) (part : A) (after : Tokens) : Type 0 where
   pub reads : reader (spelled after) ≡ Found part after

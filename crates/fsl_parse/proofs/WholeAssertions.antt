@@ -27,13 +27,17 @@ use Rattle.fsl_tree.specs.SpelledAssertions.{bank_word_token, pattern, optional_
 use Rattle.fsl_tree.specs.SpelledStatements.{clause}
 use Rattle.fsl_tree.specs.Spelling.{part}
 use Rattle.fsl_tree.specs.Nesting.{greatest, in_expression, in_condition, in_arguments, in_use, in_pattern, in_share, in_relation, atom_depth, assertion_depth, conjunct_depth, in_atom, in_assertion, in_conjunct, in_clause, in_part}
-use Rattle.fsl_parse.proofs.Parts.{Enclosed, Test, Held, ExcludedSet, Permission}
-use Rattle.fsl_parse.proofs.Groups.{permission, in_permission, excluded_set}
+use Rattle.fsl_parse.specs.declared.groups.Permission.{Permission}
+use Rattle.fsl_parse.specs.declared.groups.Test.{Test}
+use Rattle.fsl_parse.specs.declared.groups.Enclosed.{Enclosed}
+use Rattle.fsl_parse.specs.declared.groups.Held.{Held}
+use Rattle.fsl_parse.specs.declared.groups.ExcludedSet.{ExcludedSet}
+use Rattle.fsl_parse.proofs.GroupTokens.{permission, in_permission, excluded_set}
 use Rattle.fsl_parse.specs.Heads.{is_next, is_number_next, is_use_next}
-use Rattle.fsl_parse.proofs.Readers.{Outcome, Found, Wrong, Reader, bind, take, open_at, number, many}
-use Rattle.fsl_parse.proofs.ReadExpressions.{is_sign_next, read_expression, read_comparison, read_usage}
-use Rattle.fsl_parse.proofs.ReadGroups.{read_enclosed, read_test, read_held, read_excluded_set}
-use Rattle.fsl_parse.proofs.ReadAssertions.{read_pattern, read_share, read_optional_share, read_points_to, read_comparison_to, read_relation, read_related, read_named_or_related, read_bank_word, read_bank_amount, read_initialised, read_permission, read_release_permission, read_update_permission, read_acquire_permission, read_conjunct, read_assertion_of, read_clause_of, read_part_of, read_choice, read_raised, read_lowered, read_atom_of, read_atom, read_assertion, read_clause, read_part}
+use Rattle.fsl_parse.specs.Readers.{Outcome, Found, Wrong, Reader, bind, take, open_at, number, many}
+use Rattle.fsl_parse.specs.ReadExpressions.{is_sign_next, read_expression, read_comparison, read_usage}
+use Rattle.fsl_parse.specs.ReadGroups.{read_enclosed, read_test, read_held, read_excluded_set}
+use Rattle.fsl_parse.specs.ReadAssertions.{read_pattern, read_share, read_optional_share, read_points_to, read_comparison_to, read_relation, read_related, read_named_or_related, read_bank_word, read_bank_amount, read_initialised, read_permission, read_release_permission, read_update_permission, read_acquire_permission, read_conjunct, read_assertion_of, read_clause_of, read_part_of, read_choice, read_raised, read_lowered, read_atom_of, read_atom, read_assertion, read_clause, read_part}
 use Rattle.fsl_parse.proofs.Whole.{Reads, ManyRead, many_read, take_reads, open_reads}
 use Rattle.fsl_parse.proofs.WholeExpressions.{EndsExpression, expression_reads, not_start, expression_no_use}
 use Rattle.fsl_parse.proofs.WholeUses.{OptionReads, comparison_reads, comparison_ends, comparison_no_use, comparison_no_arrow, usage_reads}
@@ -105,15 +109,19 @@ abbrev AtomLayer : Type 0
 AtomLayer = Atom-F Atom Assertion Conjunct
 
 conjunct_spelled : (x : ConjunctLayer) → conjunct (roll-Conjunct x) ≡ (λ after. fixed kind.Separate x.separate ∷ atom x.atom after)
+unfolding atom assertion conjunct
 conjunct_spelled x = fold-roll-Conjunct Spelled Spelled Spelled atom_step assertion_step conjunct_step x
 
 conjunct_nested : (x : ConjunctLayer) → in_conjunct (roll-Conjunct x) ≡ in_atom x.atom
+unfolding in_atom in_assertion in_conjunct
 conjunct_nested x = fold-roll-Conjunct ℕ ℕ ℕ atom_depth assertion_depth conjunct_depth x
 
 assertion_spelled : (x : AssertionLayer) → assertion (roll-Assertion x) ≡ (λ after. atom x.first (all (map conjunct x.more) after))
+unfolding atom assertion conjunct
 assertion_spelled x = fold-roll-Assertion Spelled Spelled Spelled atom_step assertion_step conjunct_step x
 
 assertion_nested : (x : AssertionLayer) → in_assertion (roll-Assertion x) ≡ max (in_atom x.first) (greatest (map in_conjunct x.more))
+unfolding in_atom in_assertion in_conjunct
 assertion_nested x = fold-roll-Assertion ℕ ℕ ℕ atom_depth assertion_depth conjunct_depth x
 
 conjunct_layer : (room : ℕ) (reader : Reader Atom) → AtomsRead room reader → (x : ConjunctLayer) (after : Tokens)
@@ -184,6 +192,7 @@ part_of_reads room inner each p after fits =
 
 atom_layer : (room : ℕ) (inner : Reader Atom) → (0 < room → AtomsRead (room - 1) inner) → (x : AtomLayer) (after : Tokens)
     → in_atom (roll-Atom x) ≤ room → EndsExpression after → Reads (read_atom_of room inner) (atom (roll-Atom x)) (roll-Atom x) after
+unfolding atom assertion conjunct in_atom in_assertion in_conjunct
 atom_layer room inner each (Atom-F.Empty word) after fits ends =
     let deep : in_atom (roll-Atom (Atom-F.Empty word)) ≡ 0 = fold-roll-Atom ℕ ℕ ℕ atom_depth assertion_depth conjunct_depth (Atom-F.Empty word) in
     rw (fold-roll-Atom Spelled Spelled Spelled atom_step assertion_step conjunct_step (Atom-F.Empty word)) (record { reads = refl; grows = omega arith })

@@ -19,13 +19,13 @@ use Rattle.fsl_tree.specs.SpelledExpressions.{Tokens, Spelled, fixed, all}
 use Rattle.fsl_tree.specs.SpelledStatements.{optional_clause, block}
 use Rattle.fsl_tree.specs.Spelling.{parameter, next_parameter, optional_parameters, part, invariant, predicate, procedure, declaration, spelling}
 use Rattle.fsl_tree.specs.Nesting.{greatest, in_optional_clause, in_block, in_part, in_declaration, nesting}
-use Rattle.fsl_parse.proofs.Parts.{Header}
-use Rattle.fsl_parse.proofs.Groups.{header}
+use Rattle.fsl_parse.specs.declared.groups.Header.{Header}
+use Rattle.fsl_parse.proofs.GroupTokens.{header}
 use Rattle.fsl_parse.specs.Heads.{is_next, is_more}
-use Rattle.fsl_parse.proofs.Readers.{Outcome, Found, Reader, bind, take, many}
-use Rattle.fsl_parse.proofs.ReadAssertions.{read_part}
-use Rattle.fsl_parse.proofs.ReadStatements.{read_optional_clause, read_block}
-use Rattle.fsl_parse.proofs.ReadDeclarations.{read_bank_parameter, read_plain_parameter, read_parameter, read_next_parameter, read_parameters, read_optional_parameters, read_header, read_invariant, read_predicate, read_procedure, read_declaration, read_file}
+use Rattle.fsl_parse.specs.Readers.{Outcome, Found, Reader, bind, take, many}
+use Rattle.fsl_parse.specs.ReadAssertions.{read_part}
+use Rattle.fsl_parse.specs.ReadStatements.{read_optional_clause, read_block}
+use Rattle.fsl_parse.specs.ReadDeclarations.{read_bank_parameter, read_plain_parameter, read_parameter, read_next_parameter, read_parameters, read_optional_parameters, read_header, read_invariant, read_predicate, read_procedure, read_declaration, read_file}
 use Rattle.fsl_parse.proofs.Whole.{Reads, ManyRead, many_read, take_reads, open_reads}
 use Rattle.fsl_parse.proofs.WholeUses.{OptionReads}
 use Rattle.fsl_parse.proofs.WholeAssertions.{part_reads}
@@ -133,6 +133,7 @@ declaration_no_part (declarations.Procedure p) after = refl
 
 -- the tokens of a tree that nests within the room are read as that tree
 pub file_reads : (room : ℕ) (f : File) → nesting f ≤ room → read_file room (spelling f) ≡ Found f []
+unfolding read_file
 file_reads room f fits =
     let every = many_read is_more (read_declaration room) declaration in_declaration room (λ ts. is_next kind.OpenBrace ts ≡ false)
     declaration_more declaration_no_part (declaration_reads room) f.declarations [] fits refl refl in

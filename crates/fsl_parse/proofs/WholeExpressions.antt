@@ -19,8 +19,8 @@ use Rattle.fsl_tree.specs.declared.expression.Factor.TheFolds.{fold-roll-Factor,
 use Rattle.fsl_tree.specs.SpelledExpressions.{Tokens, Spelled, fixed, numeral, all, sign_token, factor_step, addend_step, expression_step, multiplier_step, term_step, factor, addend, expression, multiplier, term}
 use Rattle.fsl_tree.specs.Nesting.{greatest, factor_depth, addend_depth, expression_depth, multiplier_depth, term_depth, in_factor, in_addend, in_expression, in_multiplier, in_term}
 use Rattle.fsl_parse.specs.Heads.{is_fixed, is_next, is_number_next, is_use_next}
-use Rattle.fsl_parse.proofs.Readers.{Outcome, Found, Wrong, Reader, bind, take, open_at, number, many}
-use Rattle.fsl_parse.proofs.ReadExpressions.{read_sign, read_multiplier, read_term, is_sign_next, read_addend, read_expression_of, read_negative, read_group, read_factor_of, read_factor, read_expression}
+use Rattle.fsl_parse.specs.Readers.{Outcome, Found, Wrong, Reader, bind, take, open_at, number, many}
+use Rattle.fsl_parse.specs.ReadExpressions.{read_sign, read_multiplier, read_term, is_sign_next, read_addend, read_expression_of, read_negative, read_group, read_factor_of, read_factor, read_expression}
 use Rattle.fsl_parse.proofs.Whole.{Reads, ManyRead, many_read, take_reads, open_reads}
 
 abbrev FactorLayer : Type 0
@@ -41,27 +41,35 @@ ExpressionLayer = Expression-F Factor Addend Expression Multiplier Term
 -- ---- one level's tokens and nesting
 
 multiplier_spelled : (x : MultiplierLayer) → multiplier (roll-Multiplier x) ≡ (λ after. fixed kind.Star x.star ∷ factor x.factor after)
+unfolding factor addend expression multiplier term
 multiplier_spelled x = fold-roll-Multiplier Spelled Spelled Spelled Spelled Spelled factor_step addend_step expression_step multiplier_step term_step x
 
 multiplier_nested : (x : MultiplierLayer) → in_multiplier (roll-Multiplier x) ≡ in_factor x.factor
+unfolding in_factor in_addend in_expression in_multiplier in_term
 multiplier_nested x = fold-roll-Multiplier ℕ ℕ ℕ ℕ ℕ factor_depth addend_depth expression_depth multiplier_depth term_depth x
 
 term_spelled : (x : TermLayer) → term (roll-Term x) ≡ (λ after. factor x.first (all (map multiplier x.more) after))
+unfolding factor addend expression multiplier term
 term_spelled x = fold-roll-Term Spelled Spelled Spelled Spelled Spelled factor_step addend_step expression_step multiplier_step term_step x
 
 term_nested : (x : TermLayer) → in_term (roll-Term x) ≡ max (in_factor x.first) (greatest (map in_multiplier x.more))
+unfolding in_factor in_addend in_expression in_multiplier in_term
 term_nested x = fold-roll-Term ℕ ℕ ℕ ℕ ℕ factor_depth addend_depth expression_depth multiplier_depth term_depth x
 
 addend_spelled : (x : AddendLayer) → addend (roll-Addend x) ≡ (λ after. sign_token x.sign ∷ term x.term after)
+unfolding factor addend expression multiplier term
 addend_spelled x = fold-roll-Addend Spelled Spelled Spelled Spelled Spelled factor_step addend_step expression_step multiplier_step term_step x
 
 addend_nested : (x : AddendLayer) → in_addend (roll-Addend x) ≡ in_term x.term
+unfolding in_factor in_addend in_expression in_multiplier in_term
 addend_nested x = fold-roll-Addend ℕ ℕ ℕ ℕ ℕ factor_depth addend_depth expression_depth multiplier_depth term_depth x
 
 expression_spelled : (x : ExpressionLayer) → expression (roll-Expression x) ≡ (λ after. term x.first (all (map addend x.more) after))
+unfolding factor addend expression multiplier term
 expression_spelled x = fold-roll-Expression Spelled Spelled Spelled Spelled Spelled factor_step addend_step expression_step multiplier_step term_step x
 
 expression_nested : (x : ExpressionLayer) → in_expression (roll-Expression x) ≡ max (in_term x.first) (greatest (map in_addend x.more))
+unfolding in_factor in_addend in_expression in_multiplier in_term
 expression_nested x = fold-roll-Expression ℕ ℕ ℕ ℕ ℕ factor_depth addend_depth expression_depth multiplier_depth term_depth x
 
 -- ---- signs
@@ -180,24 +188,31 @@ expression_of_reads room reader each e after =
 
 group_spelled : (start : Span) (e : Expression) (end : Span)
     → factor (roll-Factor (Factor-F.Group start e end)) ≡ (λ after. fixed kind.OpenParen start ∷ expression e (fixed kind.CloseParen end ∷ after))
+unfolding factor addend expression multiplier term
 group_spelled start e end = fold-roll-Factor Spelled Spelled Spelled Spelled Spelled factor_step addend_step expression_step multiplier_step term_step (Factor-F.Group start e end)
 
 group_nested : (start : Span) (e : Expression) (end : Span) → in_factor (roll-Factor (Factor-F.Group start e end)) ≡ 1 + in_expression e
+unfolding in_factor in_addend in_expression in_multiplier in_term
 group_nested start e end = fold-roll-Factor ℕ ℕ ℕ ℕ ℕ factor_depth addend_depth expression_depth multiplier_depth term_depth (Factor-F.Group start e end)
 
 negative_spelled : (minus : Span) (f : Factor) → factor (roll-Factor (Factor-F.Negative minus f)) ≡ (λ after. fixed kind.Minus minus ∷ factor f after)
+unfolding factor addend expression multiplier term
 negative_spelled minus f = fold-roll-Factor Spelled Spelled Spelled Spelled Spelled factor_step addend_step expression_step multiplier_step term_step (Factor-F.Negative minus f)
 
 negative_nested : (minus : Span) (f : Factor) → in_factor (roll-Factor (Factor-F.Negative minus f)) ≡ 1 + in_factor f
+unfolding in_factor in_addend in_expression in_multiplier in_term
 negative_nested minus f = fold-roll-Factor ℕ ℕ ℕ ℕ ℕ factor_depth addend_depth expression_depth multiplier_depth term_depth (Factor-F.Negative minus f)
 
 number_spelled : (place : Span) (value : ℕ) → factor (roll-Factor (Factor-F.Number place value)) ≡ (λ after. numeral place value ∷ after)
+unfolding factor addend expression multiplier term
 number_spelled place value = fold-roll-Factor Spelled Spelled Spelled Spelled Spelled factor_step addend_step expression_step multiplier_step term_step (Factor-F.Number place value)
 
 name_spelled : (place : Span) → factor (roll-Factor (Factor-F.Name place)) ≡ (λ after. fixed kind.Name place ∷ after)
+unfolding factor addend expression multiplier term
 name_spelled place = fold-roll-Factor Spelled Spelled Spelled Spelled Spelled factor_step addend_step expression_step multiplier_step term_step (Factor-F.Name place)
 
 outcome_spelled : (place : Span) → factor (roll-Factor (Factor-F.Outcome place)) ≡ (λ after. fixed kind.ResultWord place ∷ after)
+unfolding factor addend expression multiplier term
 outcome_spelled place = fold-roll-Factor Spelled Spelled Spelled Spelled Spelled factor_step addend_step expression_step multiplier_step term_step (Factor-F.Outcome place)
 
 -- a factor of one level, where those that nest are read with one level less room

@@ -4,11 +4,16 @@ use Rattle.fsl_token.specs.declared.kind.TokenKind.{TokenKind}
 use Rattle.fsl_token.specs.declared.kind.TokenKind.TheVariants as kind
 use Rattle.fsl_tree.specs.SpelledExpressions.{Tokens, Spelled, fixed, expression, condition, next_argument, optional_arguments, usage}
 use Rattle.fsl_tree.specs.Nesting.{in_expression, in_condition, in_next_argument, in_arguments, in_use}
-use Rattle.fsl_parse.proofs.Parts.{Enclosed, Test, Held, ExcludedSet, Pair, Triple}
-use Rattle.fsl_parse.proofs.Groups.{enclosed, in_enclosed, test, in_test, held, in_held, excluded_set, in_excluded_set, pair, in_pair, triple, in_triple}
-use Rattle.fsl_parse.proofs.Readers.{Outcome, Found, Reader, bind, take, open_at}
-use Rattle.fsl_parse.proofs.ReadExpressions.{read_expression, read_condition, read_next_argument, read_optional_arguments, read_usage}
-use Rattle.fsl_parse.proofs.ReadGroups.{read_enclosed, read_test, read_held, read_excluded_set, read_pair, read_triple}
+use Rattle.fsl_parse.specs.declared.groups.Enclosed.{Enclosed}
+use Rattle.fsl_parse.specs.declared.groups.Test.{Test}
+use Rattle.fsl_parse.specs.declared.groups.Held.{Held}
+use Rattle.fsl_parse.specs.declared.groups.ExcludedSet.{ExcludedSet}
+use Rattle.fsl_parse.specs.declared.groups.Pair.{Pair}
+use Rattle.fsl_parse.specs.declared.groups.Triple.{Triple}
+use Rattle.fsl_parse.proofs.GroupTokens.{enclosed, in_enclosed, test, in_test, held, in_held, excluded_set, in_excluded_set, pair, in_pair, triple, in_triple}
+use Rattle.fsl_parse.specs.Readers.{Outcome, Found, Reader, bind, take, open_at}
+use Rattle.fsl_parse.specs.ReadExpressions.{read_expression, read_condition, read_next_argument, read_optional_arguments, read_usage}
+use Rattle.fsl_parse.specs.ReadGroups.{read_enclosed, read_test, read_held, read_excluded_set, read_pair, read_triple}
 use Rattle.fsl_parse.proofs.Whole.{Reads, take_reads, open_reads}
 use Rattle.fsl_parse.proofs.WholeExpressions.{EndsExpression, expression_reads}
 use Rattle.fsl_parse.proofs.WholeUses.{condition_reads, next_argument_reads, optional_arguments_read, usage_reads}

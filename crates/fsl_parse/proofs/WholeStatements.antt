@@ -36,13 +36,16 @@ use Rattle.fsl_tree.specs.SpelledExpressions.{Tokens, Spelled, fixed, all, expre
 use Rattle.fsl_tree.specs.SpelledAssertions.{assertion}
 use Rattle.fsl_tree.specs.SpelledStatements.{mode_token, cell_token, update_word_token, step_word_token, step, step_line, optional_with, allocation, right_side, clause, optional_clause, optional_expression, parallel_call, release_word_token, fence, statement_step, block_step, otherwise_step, statement, block, otherwise, optional_otherwise}
 use Rattle.fsl_tree.specs.Nesting.{greatest, in_expression, in_condition, in_assertion, in_use, in_step, in_step_line, in_with, in_allocation, in_right_side, in_clause, in_optional_clause, in_optional_expression, in_parallel_call, in_fence, statement_depth, block_depth, otherwise_depth, in_statement, in_block, in_otherwise, in_optional_otherwise}
-use Rattle.fsl_parse.proofs.Parts.{Enclosed, Test, Pair, Triple}
+use Rattle.fsl_parse.specs.declared.groups.Test.{Test}
+use Rattle.fsl_parse.specs.declared.groups.Enclosed.{Enclosed}
+use Rattle.fsl_parse.specs.declared.groups.Pair.{Pair}
+use Rattle.fsl_parse.specs.declared.groups.Triple.{Triple}
 use Rattle.fsl_parse.specs.Heads.{is_next}
-use Rattle.fsl_parse.proofs.Readers.{Outcome, Found, Wrong, Reader, bind, take, open_at, number, many}
-use Rattle.fsl_parse.proofs.ReadExpressions.{is_sign_next, read_expression, read_usage}
-use Rattle.fsl_parse.proofs.ReadGroups.{read_enclosed, read_test, read_pair, read_triple}
-use Rattle.fsl_parse.proofs.ReadAssertions.{read_assertion, read_clause}
-use Rattle.fsl_parse.proofs.ReadStatements.{read_mode, read_shared_cell, read_shared, read_allocation, read_update_word, read_step_word, read_step, read_step_line, is_step_next, read_with, read_optional_with, read_load, read_compare_and_swap, read_update, read_called, read_allocate, read_right_side, read_let, read_assign, read_store, read_call, read_parallel_call, read_parallel, read_release_word, read_release, read_fence_kind, read_fence, read_assert, read_print, read_free, read_optional_expression, read_return, read_bank, read_step_statement, read_simple_statement, goes_on, read_block_of, read_otherwise, read_optional_otherwise, read_if, read_optional_clause, read_while, read_statement_of, read_statement, read_block}
+use Rattle.fsl_parse.specs.Readers.{Outcome, Found, Wrong, Reader, bind, take, open_at, number, many}
+use Rattle.fsl_parse.specs.ReadExpressions.{is_sign_next, read_expression, read_usage}
+use Rattle.fsl_parse.specs.ReadGroups.{read_enclosed, read_test, read_pair, read_triple}
+use Rattle.fsl_parse.specs.ReadAssertions.{read_assertion, read_clause}
+use Rattle.fsl_parse.specs.ReadStatements.{read_mode, read_shared_cell, read_shared, read_allocation, read_update_word, read_step_word, read_step, read_step_line, is_step_next, read_with, read_optional_with, read_load, read_compare_and_swap, read_update, read_called, read_allocate, read_right_side, read_let, read_assign, read_store, read_call, read_parallel_call, read_parallel, read_release_word, read_release, read_fence_kind, read_fence, read_assert, read_print, read_free, read_optional_expression, read_return, read_bank, read_step_statement, read_simple_statement, goes_on, read_block_of, read_otherwise, read_optional_otherwise, read_if, read_optional_clause, read_while, read_statement_of, read_statement, read_block}
 use Rattle.fsl_parse.proofs.Whole.{Reads, ManyRead, many_read, take_reads, open_reads, fixed_is}
 use Rattle.fsl_parse.proofs.WholeExpressions.{EndsExpression, expression_reads, not_start}
 use Rattle.fsl_parse.proofs.WholeUses.{OptionReads, usage_reads}
@@ -204,15 +207,19 @@ abbrev OtherwiseLayer : Type 0
 OtherwiseLayer = Otherwise-F Statement Block Otherwise
 
 block_spelled : (x : BlockLayer) → block (roll-Block x) ≡ (λ after. fixed kind.OpenBrace x.open ∷ all (map statement x.statements) (fixed kind.CloseBrace x.close ∷ after))
+unfolding statement block otherwise
 block_spelled x = fold-roll-Block Spelled Spelled Spelled statement_step block_step otherwise_step x
 
 block_nested : (x : BlockLayer) → in_block (roll-Block x) ≡ 1 + greatest (map in_statement x.statements)
+unfolding in_statement in_block in_otherwise
 block_nested x = fold-roll-Block ℕ ℕ ℕ statement_depth block_depth otherwise_depth x
 
 otherwise_spelled : (x : OtherwiseLayer) → otherwise (roll-Otherwise x) ≡ (λ after. fixed kind.Else x.word ∷ block x.block after)
+unfolding statement block otherwise
 otherwise_spelled x = fold-roll-Otherwise Spelled Spelled Spelled statement_step block_step otherwise_step x
 
 otherwise_nested : (x : OtherwiseLayer) → in_otherwise (roll-Otherwise x) ≡ in_block x.block
+unfolding in_statement in_block in_otherwise
 otherwise_nested x = fold-roll-Otherwise ℕ ℕ ℕ statement_depth block_depth otherwise_depth x
 
 -- a statement begins with neither a closing brace nor `else`
@@ -225,6 +232,7 @@ step_begins (step_words.Mint place) after = record { goes = refl; no_else = refl
 step_begins (step_words.Burn place) after = record { goes = refl; no_else = refl }
 
 statement_layer_begins : (x : StatementLayer) (after : Tokens) → BeginsStatement (statement (roll-Statement x) after)
+unfolding statement block otherwise
 statement_layer_begins (Statement-F.Let word name equals right semicolon) after =
     rw (fold-roll-Statement Spelled Spelled Spelled statement_step block_step otherwise_step (Statement-F.Let word name equals right semicolon)) (record { goes = refl; no_else = refl })
 statement_layer_begins (Statement-F.Assign name equals right semicolon) after =
@@ -324,6 +332,7 @@ step_dispatched room inner s after = dispatched room inner s.word (fixed kind.Op
 statement_layer : (room : ℕ) (inner : Reader Statement) → (0 < room → StatementsRead (room - 1) inner) → (x : StatementLayer) (after : Tokens)
     → in_statement (roll-Statement x) ≤ room → is_next kind.Else after ≡ false
     → Reads (read_statement_of room inner) (statement (roll-Statement x)) (roll-Statement x) after
+unfolding statement block otherwise in_statement in_block in_otherwise
 statement_layer room inner each (Statement-F.Let word name equals right semicolon) after fits stops =
     let deep : in_statement (roll-Statement (Statement-F.Let word name equals right semicolon)) ≡ in_right_side right = fold-roll-Statement ℕ ℕ ℕ statement_depth block_depth otherwise_depth (Statement-F.Let word name equals right semicolon) in
     let one = right_side_reads room right (fixed kind.Semicolon semicolon ∷ after) (omega arith) (record { no_star = refl; no_sign = refl }) refl in let g = one.grows in

@@ -15,8 +15,8 @@ use Rattle.fsl_tree.specs.declared.expression.Expression.{Expression}
 use Rattle.fsl_tree.specs.SpelledExpressions.{Tokens, Spelled, fixed, numeral, all, comparison_token, expression, condition, next_argument, arguments, optional_arguments, usage}
 use Rattle.fsl_tree.specs.Nesting.{greatest, in_expression, in_condition, in_next_argument, in_arguments, in_use}
 use Rattle.fsl_parse.specs.Heads.{is_next, is_number_next}
-use Rattle.fsl_parse.proofs.Readers.{Outcome, Found, Wrong, Reader, bind, take, open_at, number, many}
-use Rattle.fsl_parse.proofs.ReadExpressions.{is_sign_next, read_expression, read_comparison, read_compared, read_condition, read_next_argument, read_arguments, read_optional_arguments, read_usage}
+use Rattle.fsl_parse.specs.Readers.{Outcome, Found, Wrong, Reader, bind, take, open_at, number, many}
+use Rattle.fsl_parse.specs.ReadExpressions.{is_sign_next, read_expression, read_comparison, read_compared, read_condition, read_next_argument, read_arguments, read_optional_arguments, read_usage}
 use Rattle.fsl_parse.proofs.Whole.{Reads, ManyRead, many_read, take_reads, open_reads}
 use Rattle.fsl_parse.proofs.WholeExpressions.{EndsExpression, expression_reads, not_start}
 

@@ -1,4 +1,4 @@
--- What comes next.
+-- What comes next, for the private functions of the parser; no public contract names it.
 use Rattle.std.specs.Prelude.{Bool, true, false, ◌&&◌, ◌==◌, List, [], ◌∷◌}
 use denote.Enum.Bare.{sameb}
 use Rattle.fsl_token.specs.contracts.kind.TokenKind.{the_type}

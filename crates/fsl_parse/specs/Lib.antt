@@ -1,2 +1,9 @@
 pub mod Heads
-pub mod Reading
+pub mod Levels
+pub mod ReadAssertions
+pub mod ReadDeclarations
+pub mod ReadExpressions
+pub mod ReadGroups
+pub mod ReadStatements
+pub mod Readers
+pub mod Refusal

@@ -1,20 +1,29 @@
-//! Sums of numbers and names, and equations of them.
-ghost use Rattle.std.specs.Prelude.{◌≡◌, ◌∷◌, IfOk, map};
-ghost use Rattle.fsl_tree.specs.SpelledExpressions.{sign_token, factor, term, addend, expression, condition, all};
-ghost use Rattle.fsl_tree.specs.Nesting.{in_factor, in_term, in_addend, in_expression, in_condition, greatest};
-ghost use Rattle.fsl_parse.specs.Reading.{IsRead, IsReadIfThere};
+//! Expressions.
+ghost use Rattle.std.specs.Prelude.{◌≡◌, ◌-◌, ◌<◌, ◌≤◌, length, OnOk};
+ghost use Rattle.fsl_parse.specs.Readers.{ReadsAs, many_of};
+ghost use Rattle.fsl_parse.specs.Heads.{is_next};
+ghost use Rattle.fsl_parse.specs.ReadExpressions.{is_sign_next, read_addend, read_expression, read_factor, read_group, read_multiplier, read_negative, read_sign, read_term};
+ghost use Rattle.fsl_token.specs.declared.kind.TokenKind.TheVariants.{Star};
 
 use crate::fault::Fault;
 use crate::parser::{Numeral, Parser};
 use fsl_base::{Boxed, List};
 use fsl_token::TokenKind;
-use fsl_tree::{Addend, Comparison, Condition, Expression, Factor, Sign, Term};
+use fsl_tree::{Addend, Expression, Factor, Multiplier, Sign, Term};
 use std::alloc::Global;
 
 impl<'a> Parser<'a> {
+    /// Whether `+` or `-` comes next.
+    fn is_sign_next(&self) -> bool
+        ensures { result ≡ is_sign_next self.now.rest.now }
+    {
+        self.is_next(TokenKind::Plus) || self.is_next(TokenKind::Minus)
+    }
+
     /// `"+" | "-"`
     fn sign(&mut self) -> Result<Sign, Fault>
-        ensures { IfOk result (λ s. self.old.rest.now ≡ sign_token s ∷ self.new.rest.now) }
+        ensures shorter { OnOk result (length self.new.rest.now < length self.old.rest.now) }
+        ensures agrees { ReadsAs result self.new.rest.now read_sign self.old.rest.now }
     {
         if self.is_next(TokenKind::Plus) {
             Ok(Sign::Plus {
@@ -27,9 +36,83 @@ impl<'a> Parser<'a> {
         }
     }
 
-    /// `NUMBER | NAME | "-" NUMBER`
-    fn factor(&mut self, alloc: Global) -> Result<Factor, Fault>
-        ensures { IfOk result (λ f. IsRead (factor f) (in_factor f) 1 self.old.rest.now self.new.rest.now) }
+    /// `term { ( "+" | "-" ) term }`
+    #[cycle(expression)]
+    pub fn expression(&mut self, alloc: Global, room: u32) -> Result<Expression, Fault>
+        ensures shorter { OnOk result (length self.new.rest.now < length self.old.rest.now) }
+        ensures agrees { ReadsAs result self.new.rest.now (read_expression room) self.old.rest.now }
+    {
+        let first = self.term(alloc, room)?;
+        let more = self.addends(alloc, room)?;
+        Ok(Expression { first, more })
+    }
+
+    /// `{ ( "+" | "-" ) term }`
+    #[cycle(expression)]
+    #[tactic(auto, using(crate::proofs::Turns::going_start, crate::proofs::Turns::going_step))]
+    fn addends(&mut self, alloc: Global, room: u32) -> Result<List<Addend>, Fault>
+        ensures shorter { OnOk result (length self.new.rest.now ≤ length self.old.rest.now) }
+        ensures agrees { ReadsAs result self.new.rest.now (many_of is_sign_next (read_addend (read_factor room))) self.old.rest.now }
+    {
+        let mut more = List::new(alloc);
+        'addends: while self.is_sign_next() {
+            more.push(self.addend(alloc, room)?)?;
+        }
+        Ok(more)
+    }
+
+    /// `( "+" | "-" ) term`
+    #[cycle(expression)]
+    fn addend(&mut self, alloc: Global, room: u32) -> Result<Addend, Fault>
+        ensures shorter { OnOk result (length self.new.rest.now < length self.old.rest.now) }
+        ensures agrees { ReadsAs result self.new.rest.now (read_addend (read_factor room)) self.old.rest.now }
+    {
+        let sign = self.sign()?;
+        let term = self.term(alloc, room)?;
+        Ok(Addend { sign, term })
+    }
+
+    /// `factor { "*" factor }`
+    #[cycle(expression)]
+    fn term(&mut self, alloc: Global, room: u32) -> Result<Term, Fault>
+        ensures shorter { OnOk result (length self.new.rest.now < length self.old.rest.now) }
+        ensures agrees { ReadsAs result self.new.rest.now (read_term (read_factor room)) self.old.rest.now }
+    {
+        let first = self.factor(alloc, room)?;
+        let more = self.multipliers(alloc, room)?;
+        Ok(Term { first, more })
+    }
+
+    /// `{ "*" factor }`
+    #[cycle(expression)]
+    #[tactic(auto, using(crate::proofs::Turns::going_start, crate::proofs::Turns::going_step))]
+    fn multipliers(&mut self, alloc: Global, room: u32) -> Result<List<Multiplier>, Fault>
+        ensures shorter { OnOk result (length self.new.rest.now ≤ length self.old.rest.now) }
+        ensures agrees { ReadsAs result self.new.rest.now (many_of (is_next Star) (read_multiplier (read_factor room))) self.old.rest.now }
+    {
+        let mut more = List::new(alloc);
+        'multipliers: while self.is_next(TokenKind::Star) {
+            more.push(self.multiplier(alloc, room)?)?;
+        }
+        Ok(more)
+    }
+
+    /// `"*" factor`
+    #[cycle(expression)]
+    fn multiplier(&mut self, alloc: Global, room: u32) -> Result<Multiplier, Fault>
+        ensures shorter { OnOk result (length self.new.rest.now < length self.old.rest.now) }
+        ensures agrees { ReadsAs result self.new.rest.now (read_multiplier (read_factor room)) self.old.rest.now }
+    {
+        let star = self.take(TokenKind::Star)?;
+        let factor = self.factor(alloc, room)?;
+        Ok(Multiplier { star, factor })
+    }
+
+    /// `NUMBER | NAME | "result" | "-" factor | "(" expression ")"`
+    #[cycle(expression)]
+    fn factor(&mut self, alloc: Global, room: u32) -> Result<Factor, Fault>
+        ensures shorter { OnOk result (length self.new.rest.now < length self.old.rest.now) }
+        ensures agrees { ReadsAs result self.new.rest.now (read_factor room) self.old.rest.now }
     {
         if self.is_number_next() {
             let Numeral { place, value } = self.number()?;
@@ -38,74 +121,43 @@ impl<'a> Parser<'a> {
             Ok(Factor::Name {
                 place: self.take(TokenKind::Name)?,
             })
+        } else if self.is_next(TokenKind::ResultWord) {
+            Ok(Factor::Outcome {
+                place: self.take(TokenKind::ResultWord)?,
+            })
+        } else if self.is_next(TokenKind::Minus) {
+            self.negative(alloc, room)
         } else {
-            self.negative(alloc)
+            self.group(alloc, room)
         }
     }
 
-    /// `"-" NUMBER`
-    fn negative(&mut self, alloc: Global) -> Result<Factor, Fault>
-        ensures { IfOk result (λ f. IsRead (factor f) (in_factor f) 1 self.old.rest.now self.new.rest.now) }
+    /// `"-" factor`
+    #[cycle(expression)]
+    fn negative(&mut self, alloc: Global, room: u32) -> Result<Factor, Fault>
+        ensures shorter { OnOk result (length self.new.rest.now < length self.old.rest.now) }
+        ensures agrees { ReadsAs result self.new.rest.now (read_negative room (read_factor (room - 1))) self.old.rest.now }
     {
-        let minus = self.take(TokenKind::Minus)?;
-        let Numeral { place, value } = self.number()?;
-        let factor = Boxed::new(alloc, Factor::Number { place, value })?;
+        let minus = self.open(TokenKind::Minus, room)?;
+        let factor = self.factor(alloc, room - 1)?;
+        let factor = Boxed::new(alloc, factor)?;
         Ok(Factor::Negative { minus, factor })
     }
 
-    /// A term of one factor.
-    fn term(&mut self, alloc: Global) -> Result<Term, Fault>
-        ensures { IfOk result (λ t. IsRead (term t) (in_term t) 1 self.old.rest.now self.new.rest.now) }
+    /// `"(" expression ")"`
+    #[cycle(expression)]
+    fn group(&mut self, alloc: Global, room: u32) -> Result<Factor, Fault>
+        ensures shorter { OnOk result (length self.new.rest.now < length self.old.rest.now) }
+        ensures agrees { ReadsAs result self.new.rest.now (read_group room (read_factor (room - 1))) self.old.rest.now }
     {
-        let first = self.factor(alloc)?;
-        Ok(Term {
-            first,
-            more: List::new(alloc),
-        })
-    }
-
-    /// `( "+" | "-" ) term`
-    fn addend(&mut self, alloc: Global) -> Result<Addend, Fault>
-        ensures { IfOk result (λ a. IsRead (addend a) (in_addend a) 1 self.old.rest.now self.new.rest.now) }
-    {
-        let sign = self.sign()?;
-        let term = self.term(alloc)?;
-        Ok(Addend { sign, term })
-    }
-
-    /// `{ ( "+" | "-" ) term }`
-    #[tactic(auto, using(crate::proofs::Lists::all_push, crate::proofs::Lists::greatest_push))]
-    fn addends(&mut self, alloc: Global) -> Result<List<Addend>, Fault>
-        ensures { IfOk result (λ more. IsReadIfThere (all (map addend more)) (greatest (map in_addend more)) 1 self.old.rest.now self.new.rest.now) }
-    {
-        let mut more = List::new(alloc);
-        'addends: while self.is_next(TokenKind::Plus) || self.is_next(TokenKind::Minus) {
-            more.push(self.addend(alloc)?)?;
-        }
-        Ok(more)
-    }
-
-    /// `term { ( "+" | "-" ) term }`
-    pub fn expression(&mut self, alloc: Global) -> Result<Expression, Fault>
-        ensures { IfOk result (λ e. IsRead (expression e) (in_expression e) 1 self.old.rest.now self.new.rest.now) }
-    {
-        let first = self.term(alloc)?;
-        let more = self.addends(alloc)?;
-        Ok(Expression { first, more })
-    }
-
-    /// `expression "==" expression`
-    pub fn equation(&mut self, alloc: Global) -> Result<Condition, Fault>
-        ensures { IfOk result (λ c. IsRead (condition c) (in_condition c) 1 self.old.rest.now self.new.rest.now) }
-    {
-        let left = self.expression(alloc)?;
-        let place = self.take(TokenKind::Equal)?;
-        let right = self.expression(alloc)?;
-        let comparison = Comparison::Equal { place };
-        Ok(Condition::Compared {
-            left,
-            comparison,
-            right,
+        let open = self.open(TokenKind::OpenParen, room)?;
+        let expression = self.expression(alloc, room - 1)?;
+        let close = self.take(TokenKind::CloseParen)?;
+        let expression = Boxed::new(alloc, expression)?;
+        Ok(Factor::Group {
+            open,
+            expression,
+            close,
         })
     }
 }

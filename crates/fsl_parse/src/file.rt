@@ -1,66 +1,43 @@
 //! A whole file, and the place of a fault in it.
-ghost use Rattle.std.specs.Prelude.{◌≡◌, ◌≤◌, [], IfOk, map};
-ghost use Rattle.fsl_tree.specs.SpelledExpressions.{all};
-ghost use Rattle.fsl_tree.specs.Spelling.{declaration, spelling};
-ghost use Rattle.fsl_tree.specs.Nesting.{greatest, in_declaration, nesting};
-ghost use Rattle.fsl_parse.specs.Reading.{IsRead};
+ghost use Rattle.std.specs.Prelude.{◌≡◌};
+ghost use Rattle.fsl_parse.specs.Readers.{ReadsAs, many_of};
+ghost use Rattle.fsl_parse.specs.Refusal.{placed};
+ghost use Rattle.fsl_parse.specs.Heads.{is_more};
+ghost use Rattle.fsl_parse.specs.ReadDeclarations.{read_declaration, read_file};
 
 use crate::fault::{Fault, ParseFault};
 use crate::parser::Parser;
 use fsl_base::{List, Span};
-use fsl_token::TokenKind;
-use fsl_tree::{Declaration, File, Procedure};
+use fsl_tree::{Declaration, File};
 use std::alloc::Global;
 
 impl<'a> Parser<'a> {
-    /// `"proc" NAME "(" ")" block`
-    fn procedure(&mut self, alloc: Global) -> Result<Declaration, Fault>
-        ensures { IfOk result (λ d. IsRead (declaration d) (in_declaration d) 3 self.old.rest.now self.new.rest.now) }
+    /// `{ declaration }`, up to the end of the tokens
+    pub fn file(&mut self, alloc: Global, room: u32) -> Result<File, Fault>
+        ensures agrees { ReadsAs result self.new.rest.now (read_file room) self.old.rest.now }
     {
-        let word = self.take(TokenKind::Proc)?;
-        let name = self.take(TokenKind::Name)?;
-        let open = self.take(TokenKind::OpenParen)?;
-        let close = self.take(TokenKind::CloseParen)?;
-        let body = self.block(alloc)?;
-        let procedure = Procedure {
-            word,
-            name,
-            open,
-            parameters: None,
-            close,
-            requires_clause: None,
-            ensures_clause: None,
-            body,
-        };
-        Ok(Declaration::Procedure { procedure })
+        let declarations = self.declarations(alloc, room)?;
+        Ok(File { declarations })
     }
 
-    /// `{ procedure }`, up to the end of the tokens
-    #[tactic(auto, using(crate::proofs::Lists::all_push, crate::proofs::Lists::greatest_push))]
-    fn declarations(&mut self, alloc: Global) -> Result<List<Declaration>, Fault>
-        ensures found { IfOk result (λ more. self.old.rest.now ≡ all (map declaration more) []) }
-        ensures within { IfOk result (λ more. greatest (map in_declaration more) ≤ 3) }
+    /// `{ declaration }`, up to the end of the tokens
+    #[tactic(auto, using(crate::proofs::Turns::going_start, crate::proofs::Turns::going_step))]
+    fn declarations(&mut self, alloc: Global, room: u32) -> Result<List<Declaration>, Fault>
+        ensures agrees { ReadsAs result self.new.rest.now (many_of is_more (read_declaration room)) self.old.rest.now }
     {
         let mut more = List::new(alloc);
-        'declarations: while !self.rest.is_empty() {
-            more.push(self.procedure(alloc)?)?;
+        'declarations: while self.is_more() {
+            more.push(self.declaration(alloc, room)?)?;
         }
         Ok(more)
     }
 
-    /// A whole file.
-    pub fn file(&mut self, alloc: Global) -> Result<File, Fault>
-        ensures found { IfOk result (λ file. self.old.rest.now ≡ spelling file) }
-        ensures within { IfOk result (λ file. nesting file ≤ 64) }
-    {
-        let declarations = self.declarations(alloc)?;
-        Ok(File { declarations })
-    }
-
     /// A fault at the next token, or at the end of a file of `end` bytes.
-    pub fn placed(&self, fault: Fault, end: u32) -> ParseFault {
-        let place = match self.rest.first() {
-            Some(token) => token.span,
+    pub fn placed(&self, fault: Fault, end: u32) -> ParseFault
+        ensures { result ≡ placed fault self.now.rest.now end }
+    {
+        let place = match self.rest.split_first() {
+            Some((token, _)) => token.span,
             None => Span { from: end, to: end },
         };
         match fault {

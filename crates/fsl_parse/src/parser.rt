@@ -1,7 +1,7 @@
 //! The tokens that are left, and how one is taken.
-ghost use Rattle.std.specs.Prelude.{◌≡◌, ◌∷◌, ◌<◌, IfOk, OnOk};
-ghost use Rattle.fsl_tree.specs.SpelledExpressions.{fixed, numeral};
-ghost use Rattle.fsl_parse.specs.Heads.{is_fixed, is_next, is_number_next, is_use_next};
+ghost use Rattle.std.specs.Prelude.{◌≡◌, ◌<◌, OnOk, length};
+ghost use Rattle.fsl_parse.specs.Heads.{is_fixed, is_more, is_next, is_number_next, is_use_next};
+ghost use Rattle.fsl_parse.specs.Readers.{ReadsAs, take, open_at, number};
 
 use crate::fault::Fault;
 use fsl_base::Span;
@@ -45,6 +45,16 @@ impl<'a> Parser<'a> {
         Parser { rest }
     }
 
+    /// Whether a token is left.
+    pub fn is_more(&self) -> bool
+        ensures { result ≡ is_more self.now.rest.now }
+    {
+        match self.rest.split_first() {
+            Some(_) => true,
+            None => false,
+        }
+    }
+
     /// Whether a token of a kind that has no value comes next.
     pub fn is_next(&self, kind: TokenKind) -> bool
         ensures { result ≡ is_next kind self.now.rest.now }
@@ -75,7 +85,8 @@ impl<'a> Parser<'a> {
 
     /// Takes the next token, which is to be of a kind that has no value.
     pub fn take(&mut self, kind: TokenKind) -> Result<Span, Fault>
-        ensures { IfOk result (λ place. self.old.rest.now ≡ fixed kind place ∷ self.new.rest.now) }
+        ensures shorter { OnOk result (length self.new.rest.now < length self.old.rest.now) }
+        ensures agrees { ReadsAs result self.new.rest.now (take kind) self.old.rest.now }
     {
         let (token, rest) = match self.rest.split_first() {
             Some(parts) => parts,
@@ -90,8 +101,9 @@ impl<'a> Parser<'a> {
 
     /// Takes the next token, which is to nest: there must be room for one level more.
     pub fn open(&mut self, kind: TokenKind, room: u32) -> Result<Span, Fault>
-        ensures found { IfOk result (λ place. self.old.rest.now ≡ fixed kind place ∷ self.new.rest.now) }
+        ensures shorter { OnOk result (length self.new.rest.now < length self.old.rest.now) }
         ensures room { OnOk result (0 < room) }
+        ensures agrees { ReadsAs result self.new.rest.now (open_at kind room) self.old.rest.now }
     {
         if room == 0 {
             let fault = if self.is_next(kind) {
@@ -106,7 +118,8 @@ impl<'a> Parser<'a> {
 
     /// Takes the next token, which is to be a number.
     pub fn number(&mut self) -> Result<Numeral, Fault>
-        ensures read { IfOk result (λ n. self.old.rest.now ≡ numeral n.place n.value ∷ self.new.rest.now) }
+        ensures shorter { OnOk result (length self.new.rest.now < length self.old.rest.now) }
+        ensures agrees { ReadsAs result self.new.rest.now number self.old.rest.now }
     {
         let (token, rest) = match self.rest.split_first() {
             Some(parts) => parts,

@@ -1,11 +1,12 @@
 -- What an answer says: its status and its text, of what the shelf held before the call and of how its counts rose.
-use Rattle.std.specs.Prelude.{◌≡◌, ◌≤◌, ◌<◌, ◌⊎◌, ℕ, List, [], ◌∷◌, length, take, Option, Some, None, codes, if◌then◌else◌}
+use Rattle.std.specs.Prelude.{◌≡◌, ◌≤◌, ◌<◌, ◌⊎◌, ℕ, List, [], ◌∷◌, length, take, Option, Some, None, codes, IsTrue, if◌then◌else◌}
 use Rattle.std.specs.Str.{bytes_eq}
 use Rattle.std.specs.Io.KnownBytes.{Appends}
 use Rattle.fsl_base.specs.Outside.{Content, Rose, HoldsNo, raised}
 use Rattle.fsl_core.specs.declared.program.Program.{Program}
 use Rattle.fsl_core.specs.declared.verdict.Verdict.{Verdict}
 use Rattle.fsl_core.specs.declared.verdict.Verdict.TheVariants.{Accepted, Failed}
+use Rattle.fsl_core.specs.Straight.{is_straight}
 use Rattle.fsl_core.specs.Verdicts.{verdict_of}
 use Rattle.fsl_types.specs.Reading.{ReadsAs}
 use Rattle.fslpp.specs.declared.answer.Answer.{Answer}
@@ -60,9 +61,16 @@ pub record HasTooMany (content : Content) (name : List ℕ) (given_before given_
   pub pulled : given_after ≡ raised given_before 1048577
   pub long : IsTooLong content name
 
--- the bytes are not read as a program, or there is no memory
-abbrev pub IsUnread : Refused → Type 0
-IsUnread fault = (fault ≡ refusals.Form) ⊎ (fault ≡ refusals.NoMemory)
+-- the bytes are no straight program
+abbrev pub IsNoProgram : List ℕ → Type 0
+IsNoProgram bytes = (p : Program) → ReadsAs bytes p → IsTrue (is_straight p) → ⊥
+
+-- why bytes were not read: they are no straight program, or there is no memory
+abbrev pub IsUnread : List ℕ → Refused → Type 0
+IsUnread bytes refusals.Form = IsNoProgram bytes
+IsUnread bytes refusals.NoMemory = Unit {0}
+IsUnread bytes refusals.Read = ⊥
+IsUnread bytes refusals.Size = ⊥
 
 -- what the shelf is before a reading, and its counts before and after it
 pub record Reading : Type 0 where
@@ -73,12 +81,12 @@ pub record Reading : Type 0 where
   pub given_before : ℕ
   pub given_after : ℕ
 
--- why no program was read: the shelf failed or has no such file; the file is too long; its bytes are not read as
--- a straight program
+-- why no program was read: the shelf failed or has no such file; the file is too long; its bytes are no straight
+-- program
 abbrev pub HasCause : Reading → Refused → Type 0
 HasCause r refusals.Read = Rose r.faults_before r.faults_after ⊎ HoldsNo r.content r.name
 HasCause r refusals.Size = HasTooMany r.content r.name r.given_before r.given_after
-HasCause r refusals.Form = (bytes : List ℕ) × HasFile r.content r.name bytes
+HasCause r refusals.Form = (bytes : List ℕ) × HasFile r.content r.name bytes × IsNoProgram bytes
 HasCause r refusals.NoMemory = Unit {0}
 
 -- an answer of `check`: the verdict of the rules on the one program that the file is, or a refusal with its cause

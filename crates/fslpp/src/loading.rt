@@ -53,10 +53,11 @@ fn file_bytes<H: Shelf>(alloc: Global, name: &str, shelf: &mut H) -> Result<List
 }
 
 /// The tokens of a file.
+#[tactic(auto, using(crate::proofs::Unread::no_tokens))]
 fn tokens_of(alloc: Global, bytes: &[u8]) -> Result<List<Token>, Refused>
     requires { length bytes.now ≤ 1048576 }
     ensures cut { IfOk result (λ tokens. lexed bytes.now ≡ Ok tokens) }
-    ensures fault { IfErr result IsUnread }
+    ensures fault { IfErr result (IsUnread bytes.now) }
 {
     match lex(alloc, bytes) {
         Ok(tokens) => Ok(tokens),
@@ -66,13 +67,13 @@ fn tokens_of(alloc: Global, bytes: &[u8]) -> Result<List<Token>, Refused>
 }
 
 /// The tree of a file.
-#[tactic(auto, using(crate::proofs::Only::only_tree))]
+#[tactic(auto, using(crate::proofs::Only::only_tree, crate::proofs::Unread::no_tree))]
 fn tree_of(alloc: Global, bytes: &[u8]) -> Result<File, Refused>
     requires { length bytes.now ≤ 1048576 }
     ensures spelled { IfOk result (λ file. lexed bytes.now ≡ Ok (spelling file)) }
     ensures nested { IfOk result (λ file. nesting file ≤ 64) }
     ensures only { IfOk result (λ file. (other : File) → lexed bytes.now ≡ Ok (spelling other) → other ≡ file) }
-    ensures fault { IfErr result IsUnread }
+    ensures fault { IfErr result (IsUnread bytes.now) }
 {
     let tokens = match tokens_of(alloc, bytes) {
         Ok(tokens) => tokens,
@@ -86,35 +87,28 @@ fn tree_of(alloc: Global, bytes: &[u8]) -> Result<File, Refused>
 }
 
 /// The program that the bytes are, where the rules cover it.
-#[tactic(auto, using(crate::proofs::Only::only_program))]
+#[tactic(auto, using(crate::proofs::Only::only_program, crate::proofs::Unread::no_numbering, crate::proofs::Unread::not_covered))]
 fn program_of(alloc: Global, bytes: &[u8]) -> Result<Program, Refused>
     requires { length bytes.now ≤ 1048576 }
     ensures reads { IfOk result (λ p. ReadsAs bytes.now p) }
     ensures only { IfOk result (λ p. IsOnly bytes.now p) }
     ensures covered { IfOk result (λ p. IsTrue (is_straight p)) }
-    ensures fault { IfErr result IsUnread }
+    ensures fault { IfErr result (IsUnread bytes.now) }
 {
     let file = match tree_of(alloc, bytes) {
         Ok(file) => file,
         Err(fault) => return Err(fault),
     };
     match straight_program(alloc, bytes, &file) {
-        Ok(Some(program)) => covered(program),
+        Ok(Some(program)) => {
+            if built(&program) {
+                Ok(program)
+            } else {
+                Err(Refused::Form)
+            }
+        }
         Ok(None) => Err(Refused::Form),
         Err(_) => Err(Refused::NoMemory),
-    }
-}
-
-/// A program, where the rules cover it.
-fn covered(program: Program) -> Result<Program, Refused>
-    ensures same { IfOk result (λ p. p ≡ program) }
-    ensures covered { IfOk result (λ p. IsTrue (is_straight p)) }
-    ensures fault { IfErr result IsUnread }
-{
-    if built(&program) {
-        Ok(program)
-    } else {
-        Err(Refused::Form)
     }
 }
 
@@ -130,6 +124,7 @@ fn without_place(alloc: Global, fault: Refused) -> Unread
 }
 
 /// Reads the program of a file.
+#[tactic(auto, using(crate::proofs::Unread::cause_of))]
 pub fn read_program<H: Shelf>(alloc: Global, name: &str, shelf: &mut H) -> Result<Loaded, Unread>
     ensures reads { IfOk result (λ loaded. ReadsAs loaded.bytes loaded.program) }
     ensures only { IfOk result (λ loaded. IsOnly loaded.bytes loaded.program) }

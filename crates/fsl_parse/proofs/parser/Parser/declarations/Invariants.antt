@@ -1,13 +1,12 @@
-use Rattle.std.proofs.Common.{◌≡◌, ◌≤◌, length, map}
-use Rattle.fsl_tree.specs.SpelledExpressions.{all}
-use Rattle.fsl_tree.specs.Spelling.{declaration}
-use Rattle.fsl_tree.specs.Nesting.{greatest, in_declaration}
+use Rattle.std.proofs.Common.{length}
+use Rattle.fsl_parse.specs.ReadDeclarations.{read_declaration}
+use Rattle.fsl_parse.specs.Heads.{is_more}
+use Rattle.fsl_parse.proofs.Turns.{Going}
 use Rattle.fsl_parse.proofs.parser.Parser.declarations.Given as goal
 
 abbrev pub invariant-declarations : goal.invariant-declarations
 invariant-declarations l = record {
-  found : l.fn.self.rest.now ≡ all (map declaration l.more) l.self.rest.now;
-  within : greatest (map in_declaration l.more) ≤ 3;
+  going : Going is_more (read_declaration l.room) l.fn.self.rest.now l.more l.self.rest.now;
 }
 
 abbrev pub decreases-declarations : goal.decreases-declarations

@@ -1,0 +1,137 @@
+-- With room for no level more nothing is read inside, so how that would be read makes no difference.
+use Rattle.std.proofs.Common.{ℕ, zero, suc, ◌-◌, ◌≡◌, ◌∙◌, ◌||◌, Bool, true, false, if◌then◌else◌, refl, sym, ap, arith, Result}
+use Rattle.fsl_token.specs.declared.kind.TokenKind.{TokenKind}
+use Rattle.fsl_token.specs.declared.kind.TokenKind.TheVariants as kind
+use Rattle.fsl_tree.specs.SpelledExpressions.{Tokens}
+use Rattle.fsl_tree.specs.declared.assertion.Atom.{Atom}
+use Rattle.fsl_tree.specs.declared.statement.Statement.{Statement}
+use Rattle.fsl_parse.specs.declared.fault.Fault.{Fault}
+use Rattle.fsl_base.specs.declared.span.Span.{Span}
+use Rattle.fsl_parse.specs.Heads.{is_next}
+use Rattle.fsl_parse.specs.Readers.{Outcome, Found, Wrong, Deep, Reader, ReadsAs, bind, take, open_at}
+use Rattle.fsl_parse.specs.ReadGroups.{read_test}
+use Rattle.fsl_parse.specs.ReadAssertions.{read_choice, read_raised, read_lowered, read_clause_of, read_named_or_related, read_atom_of, read_atom}
+use Rattle.fsl_parse.specs.ReadStatements.{read_if, read_while, read_guarded_while, read_optional_clause, read_simple_statement, read_statement_of, read_statement}
+
+shut_by : {A : Type 0} (c : Bool) (tokens : Tokens) (f g : Span → Reader A)
+    → bind (if c then Deep tokens else Wrong tokens) f ≡ bind (if c then Deep tokens else Wrong tokens) g
+shut_by true tokens f g = refl
+shut_by false tokens f g = refl
+
+-- a token that nests isn't taken
+shut : {A : Type 0} (kind : TokenKind) (tokens : Tokens) (f g : Span → Reader A) → bind (open_at kind 0 tokens) f ≡ bind (open_at kind 0 tokens) g
+shut kind tokens f g = shut_by (is_next kind tokens) tokens f g
+
+same_after : {A B : Type 0} (o : Outcome A) (f g : A → Reader B) → ((a : A) (left : Tokens) → f a left ≡ g a left) → bind o f ≡ bind o g
+same_after (Found a left) f g h = h a left
+same_after (Wrong left) f g h = refl
+same_after (Deep left) f g h = refl
+
+-- two parts in one
+last_part : {B C D : Type 0} (o : Outcome B) (both : B → C) (next : C → Reader D)
+    → bind o (λ b left. next (both b) left) ≡ bind (bind o (λ b left. Found (both b) left)) next
+last_part (Found b left) both next = refl
+last_part (Wrong left) both next = refl
+last_part (Deep left) both next = refl
+
+two_parts : {A B C D : Type 0} (o : Outcome A) (second : A → Reader B) (both : A → B → C) (next : C → Reader D)
+    → bind o (λ a left. bind (second a left) (λ b left. next (both a b) left))
+    ≡ bind (bind o (λ a left. bind (second a left) (λ b left. Found (both a b) left))) next
+two_parts (Found a left) second both next = last_part (second a left) (both a) next
+two_parts (Wrong left) second both next = refl
+two_parts (Deep left) second both next = refl
+
+-- what comes behind a part that isn't found
+unfound_by : {B C : Type 0} (c : Bool) (tokens : Tokens) (inside : Span → Reader B) (f g : B → Reader C)
+    → bind (bind (if c then Deep tokens else Wrong tokens) inside) f ≡ bind (bind (if c then Deep tokens else Wrong tokens) inside) g
+unfound_by true tokens inside f g = refl
+unfound_by false tokens inside f g = refl
+
+behind : {B C : Type 0} (o : Outcome Span) (inside : Span → Span → Reader B) (f g : B → Reader C)
+    → bind (bind o (λ place left. bind (open_at kind.OpenParen 0 left) (inside place))) f
+    ≡ bind (bind o (λ place left. bind (open_at kind.OpenParen 0 left) (inside place))) g
+behind (Found place left) inside f g = unfound_by (is_next kind.OpenParen left) left (inside place) f g
+behind (Wrong left) inside f g = refl
+behind (Deep left) inside f g = refl
+
+-- ---- atoms
+
+choice_shut : (i j : Reader Atom) (tokens : Tokens) → read_choice 0 i tokens ≡ read_choice 0 j tokens
+choice_shut i j tokens = behind (take kind.If tokens) _ _ _
+
+clause_shut : (word : TokenKind) (i j : Reader Atom) (tokens : Tokens) → read_clause_of word 0 i tokens ≡ read_clause_of word 0 j tokens
+clause_shut word i j tokens = same_after (take word tokens) _ _ (λ place left. shut kind.OpenParen left _ _)
+
+raised_shut : (i j : Reader Atom) (tokens : Tokens) → read_raised 0 i tokens ≡ read_raised 0 j tokens
+raised_shut i j tokens = rw (clause_shut kind.Up i j tokens) refl
+
+lowered_shut : (i j : Reader Atom) (tokens : Tokens) → read_lowered 0 i tokens ≡ read_lowered 0 j tokens
+lowered_shut i j tokens = rw (clause_shut kind.Down i j tokens) refl
+
+atom_shut : (i j : Reader Atom) (tokens : Tokens) → read_atom_of 0 i tokens ≡ read_atom_of 0 j tokens
+atom_shut i j tokens = rw (choice_shut i j tokens, raised_shut i j tokens, lowered_shut i j tokens) refl
+
+pub atom_is : (room : ℕ) (tokens : Tokens) → read_atom room tokens ≡ read_atom_of room (read_atom (room - 1)) tokens
+atom_is zero tokens = atom_shut (λ tokens. Wrong tokens) (read_atom 0) tokens
+atom_is (suc room) tokens = let gone : suc room - 1 ≡ room = omega arith in ap (λ (k : ℕ). read_atom_of (suc room) (read_atom k) tokens) (sym gone)
+
+-- ---- statements
+
+if_shut : (i j : Reader Statement) (tokens : Tokens) → read_if 0 i tokens ≡ read_if 0 j tokens
+if_shut i j tokens = behind (take kind.If tokens) _ _ _
+
+while_shut : (i j : Reader Statement) (tokens : Tokens) → read_while 0 i tokens ≡ read_while 0 j tokens
+while_shut i j tokens = behind (take kind.While tokens) _ _ _
+
+statement_shut : (i j : Reader Statement) (tokens : Tokens) → read_statement_of 0 i tokens ≡ read_statement_of 0 j tokens
+statement_shut i j tokens = rw (if_shut i j tokens, while_shut i j tokens) refl
+
+pub statement_is : (room : ℕ) (tokens : Tokens) → read_statement room tokens ≡ read_statement_of room (read_statement (room - 1)) tokens
+statement_is zero tokens = statement_shut (λ tokens. Wrong tokens) (read_statement 0) tokens
+statement_is (suc room) tokens =
+    let gone : suc room - 1 ≡ room = omega arith in ap (λ (k : ℕ). read_statement_of (suc room) (read_statement k) tokens) (sym gone)
+
+-- ---- a reader that gives the same
+
+pub agrees_by : {A : Type 0} (result : Result A Fault) (left : Tokens) (reader other : Reader A) (tokens : Tokens) → reader tokens ≡ other tokens
+    → ReadsAs result left other tokens → ReadsAs result left reader tokens
+agrees_by result left reader other tokens same agrees = rw (same) agrees
+
+pub is_choice : (room : ℕ) (tokens : Tokens) → is_next kind.Emp tokens ≡ false → is_next kind.If tokens ≡ true
+    → read_atom room tokens ≡ read_choice room (read_atom (room - 1)) tokens
+is_choice room tokens e f = atom_is room tokens ∙ rw (e, f) refl
+
+pub is_raised : (room : ℕ) (tokens : Tokens) → is_next kind.Emp tokens ≡ false → is_next kind.If tokens ≡ false → is_next kind.Up tokens ≡ true
+    → read_atom room tokens ≡ read_raised room (read_atom (room - 1)) tokens
+is_raised room tokens e f g = atom_is room tokens ∙ rw (e, f, g) refl
+
+pub is_lowered : (room : ℕ) (tokens : Tokens) → is_next kind.Emp tokens ≡ false → is_next kind.If tokens ≡ false → is_next kind.Up tokens ≡ false
+    → is_next kind.Down tokens ≡ true → read_atom room tokens ≡ read_lowered room (read_atom (room - 1)) tokens
+is_lowered room tokens e f g h = atom_is room tokens ∙ rw (e, f, g, h) refl
+
+-- an atom that begins with no word of its own
+pub is_named : (room : ℕ) (tokens : Tokens) → is_next kind.Emp tokens ≡ false → is_next kind.If tokens ≡ false → is_next kind.Up tokens ≡ false
+    → is_next kind.Down tokens ≡ false → is_next kind.InitAssertion tokens ≡ false → is_next kind.RelAssertion tokens ≡ false
+    → is_next kind.RmwAcqAssertion tokens ≡ false → is_next kind.AcqAssertion tokens ≡ false
+    → (is_next kind.TokAssertion tokens || is_next kind.AuthAssertion tokens) ≡ false
+    → read_atom room tokens ≡ read_named_or_related room tokens
+is_named room tokens e f g h i j k l m = atom_is room tokens ∙ rw (e, f, g, h, i, j, k, l, m) refl
+
+pub is_if : (room : ℕ) (tokens : Tokens) → is_next kind.If tokens ≡ true
+    → read_statement room tokens ≡ read_if room (read_statement (room - 1)) tokens
+is_if room tokens e = statement_is room tokens ∙ rw (e) refl
+
+while_guarded : (room : ℕ) (inner : Reader Statement) (tokens : Tokens) → read_while room inner tokens ≡ read_guarded_while room inner tokens
+while_guarded room inner tokens =
+    same_after (read_test kind.While room tokens) _ _ (λ t left. two_parts (read_optional_clause kind.Inv room left) _ _ _)
+
+pub is_while : (room : ℕ) (tokens : Tokens) → is_next kind.If tokens ≡ false → is_next kind.While tokens ≡ true
+    → read_statement room tokens ≡ read_guarded_while room (read_statement (room - 1)) tokens
+is_while room tokens e f =
+    let one : read_statement room tokens ≡ read_while room (read_statement (room - 1)) tokens = statement_is room tokens ∙ rw (e, f) refl in
+    one ∙ while_guarded room (read_statement (room - 1)) tokens
+
+-- a statement without a block
+pub is_simple : (room : ℕ) (tokens : Tokens) → is_next kind.If tokens ≡ false → is_next kind.While tokens ≡ false
+    → read_statement room tokens ≡ read_simple_statement room tokens
+is_simple room tokens e f = statement_is room tokens ∙ rw (e, f) refl

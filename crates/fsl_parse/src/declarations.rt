@@ -1,0 +1,256 @@
+//! Invariants, predicates and procedures.
+ghost use Rattle.std.specs.Prelude.{◌<◌, ◌≤◌, length, OnOk};
+ghost use Rattle.fsl_parse.specs.Readers.{ReadsAs, many_of};
+ghost use Rattle.fsl_parse.specs.Heads.{is_next};
+ghost use Rattle.fsl_parse.specs.ReadAssertions.{read_part};
+ghost use Rattle.fsl_parse.specs.ReadStatements.{read_optional_clause};
+ghost use Rattle.fsl_parse.specs.ReadDeclarations.{read_contract, read_declaration, read_header, read_invariant, read_next_parameter, read_optional_parameters, read_parameter, read_parameters, read_predicate, read_procedure};
+ghost use Rattle.fsl_token.specs.declared.kind.TokenKind.TheVariants.{Comma, Ensures, OpenBrace, Requires};
+
+use crate::fault::Fault;
+use crate::groups::{Contract, Header};
+use crate::parser::Parser;
+use fsl_base::List;
+use fsl_token::TokenKind;
+use fsl_tree::{
+    Clause, Declaration, Invariant, NextParameter, Parameter, Parameters, Part, Predicate,
+    Procedure,
+};
+use std::alloc::Global;
+
+impl<'a> Parser<'a> {
+    /// `invariant | predicate | procedure`
+    pub fn declaration(&mut self, alloc: Global, room: u32) -> Result<Declaration, Fault>
+        ensures shorter { OnOk result (length self.new.rest.now < length self.old.rest.now) }
+        ensures agrees { ReadsAs result self.new.rest.now (read_declaration room) self.old.rest.now }
+    {
+        if self.is_next(TokenKind::Inv) {
+            self.invariant(alloc, room)
+        } else if self.is_next(TokenKind::Pred) {
+            self.predicate(alloc, room)
+        } else {
+            self.procedure(alloc, room)
+        }
+    }
+
+    /// `"inv" NAME "(" [ parameters ] ")" "of" NAME "{" assertion "}" { "{" assertion "}" }`
+    fn invariant(&mut self, alloc: Global, room: u32) -> Result<Declaration, Fault>
+        ensures shorter { OnOk result (length self.new.rest.now < length self.old.rest.now) }
+        ensures agrees { ReadsAs result self.new.rest.now (read_invariant room) self.old.rest.now }
+    {
+        let Header {
+            word,
+            name,
+            open,
+            parameters,
+            close,
+        } = self.header(alloc, TokenKind::Inv, room)?;
+        let of = self.take(TokenKind::Of)?;
+        let value = self.take(TokenKind::Name)?;
+        let first = self.part(alloc, room)?;
+        let more = self.more_parts(alloc, room)?;
+        Ok(Declaration::Invariant {
+            invariant: Invariant {
+                word,
+                name,
+                open,
+                parameters,
+                close,
+                of,
+                value,
+                first,
+                more,
+            },
+        })
+    }
+
+    /// `{ "{" assertion "}" }`
+    #[tactic(auto, using(crate::proofs::Turns::going_start, crate::proofs::Turns::going_step))]
+    fn more_parts(&mut self, alloc: Global, room: u32) -> Result<List<Part>, Fault>
+        ensures shorter { OnOk result (length self.new.rest.now ≤ length self.old.rest.now) }
+        ensures agrees { ReadsAs result self.new.rest.now (many_of (is_next OpenBrace) (read_part room)) self.old.rest.now }
+    {
+        let mut more = List::new(alloc);
+        'parts: while self.is_next(TokenKind::OpenBrace) {
+            more.push(self.part(alloc, room)?)?;
+        }
+        Ok(more)
+    }
+
+    /// `"pred" NAME "(" [ parameters ] ")" "{" assertion "}"`
+    fn predicate(&mut self, alloc: Global, room: u32) -> Result<Declaration, Fault>
+        ensures shorter { OnOk result (length self.new.rest.now < length self.old.rest.now) }
+        ensures agrees { ReadsAs result self.new.rest.now (read_predicate room) self.old.rest.now }
+    {
+        let Header {
+            word,
+            name,
+            open,
+            parameters,
+            close,
+        } = self.header(alloc, TokenKind::Pred, room)?;
+        let body = self.part(alloc, room)?;
+        Ok(Declaration::Predicate {
+            predicate: Predicate {
+                word,
+                name,
+                open,
+                parameters,
+                close,
+                body,
+            },
+        })
+    }
+
+    /// `"proc" NAME "(" [ parameters ] ")" [ "requires" "(" assertion ")" ] [ "ensures" "(" assertion ")" ] block`
+    fn procedure(&mut self, alloc: Global, room: u32) -> Result<Declaration, Fault>
+        ensures shorter { OnOk result (length self.new.rest.now < length self.old.rest.now) }
+        ensures agrees { ReadsAs result self.new.rest.now (read_procedure room) self.old.rest.now }
+    {
+        let Header {
+            word,
+            name,
+            open,
+            parameters,
+            close,
+        } = self.header(alloc, TokenKind::Proc, room)?;
+        let Contract {
+            requires_clause,
+            ensures_clause,
+        } = self.contract(alloc, room)?;
+        let body = self.block(alloc, room)?;
+        Ok(Declaration::Procedure {
+            procedure: Procedure {
+                word,
+                name,
+                open,
+                parameters,
+                close,
+                requires_clause,
+                ensures_clause,
+                body,
+            },
+        })
+    }
+
+    /// `[ "requires" "(" assertion ")" ] [ "ensures" "(" assertion ")" ]`
+    fn contract(&mut self, alloc: Global, room: u32) -> Result<Contract, Fault>
+        ensures shorter { OnOk result (length self.new.rest.now ≤ length self.old.rest.now) }
+        ensures agrees { ReadsAs result self.new.rest.now (read_contract room) self.old.rest.now }
+    {
+        let requires_clause = self.requires_clause(alloc, room)?;
+        let ensures_clause = self.ensures_clause(alloc, room)?;
+        Ok(Contract {
+            requires_clause,
+            ensures_clause,
+        })
+    }
+
+    /// `[ "requires" "(" assertion ")" ]`
+    fn requires_clause(&mut self, alloc: Global, room: u32) -> Result<Option<Clause>, Fault>
+        ensures shorter { OnOk result (length self.new.rest.now ≤ length self.old.rest.now) }
+        ensures agrees { ReadsAs result self.new.rest.now (read_optional_clause Requires room) self.old.rest.now }
+    {
+        if self.is_next(TokenKind::Requires) {
+            Ok(Some(self.clause(alloc, TokenKind::Requires, room)?))
+        } else {
+            Ok(None)
+        }
+    }
+
+    /// `[ "ensures" "(" assertion ")" ]`
+    fn ensures_clause(&mut self, alloc: Global, room: u32) -> Result<Option<Clause>, Fault>
+        ensures shorter { OnOk result (length self.new.rest.now ≤ length self.old.rest.now) }
+        ensures agrees { ReadsAs result self.new.rest.now (read_optional_clause Ensures room) self.old.rest.now }
+    {
+        if self.is_next(TokenKind::Ensures) {
+            Ok(Some(self.clause(alloc, TokenKind::Ensures, room)?))
+        } else {
+            Ok(None)
+        }
+    }
+
+    /// A word, `NAME "(" [ parameters ] ")"`
+    fn header(&mut self, alloc: Global, word: TokenKind, room: u32) -> Result<Header, Fault>
+        ensures shorter { OnOk result (length self.new.rest.now < length self.old.rest.now) }
+        ensures agrees { ReadsAs result self.new.rest.now (read_header word room) self.old.rest.now }
+    {
+        let word = self.take(word)?;
+        let name = self.take(TokenKind::Name)?;
+        let open = self.open(TokenKind::OpenParen, room)?;
+        let parameters = self.optional_parameters(alloc)?;
+        let close = self.take(TokenKind::CloseParen)?;
+        Ok(Header {
+            word,
+            name,
+            open,
+            parameters,
+            close,
+        })
+    }
+
+    /// `[ parameters ]`, up to a `)`
+    fn optional_parameters(&mut self, alloc: Global) -> Result<Option<Parameters>, Fault>
+        ensures shorter { OnOk result (length self.new.rest.now ≤ length self.old.rest.now) }
+        ensures agrees { ReadsAs result self.new.rest.now read_optional_parameters self.old.rest.now }
+    {
+        if self.is_next(TokenKind::CloseParen) {
+            Ok(None)
+        } else {
+            Ok(Some(self.parameters(alloc)?))
+        }
+    }
+
+    /// `parameter { "," parameter }`
+    fn parameters(&mut self, alloc: Global) -> Result<Parameters, Fault>
+        ensures shorter { OnOk result (length self.new.rest.now < length self.old.rest.now) }
+        ensures agrees { ReadsAs result self.new.rest.now read_parameters self.old.rest.now }
+    {
+        let first = self.parameter()?;
+        let more = self.more_parameters(alloc)?;
+        Ok(Parameters { first, more })
+    }
+
+    /// `{ "," parameter }`
+    #[tactic(auto, using(crate::proofs::Turns::going_start, crate::proofs::Turns::going_step))]
+    fn more_parameters(&mut self, alloc: Global) -> Result<List<NextParameter>, Fault>
+        ensures shorter { OnOk result (length self.new.rest.now ≤ length self.old.rest.now) }
+        ensures agrees { ReadsAs result self.new.rest.now (many_of (is_next Comma) read_next_parameter) self.old.rest.now }
+    {
+        let mut more = List::new(alloc);
+        'parameters: while self.is_next(TokenKind::Comma) {
+            more.push(self.next_parameter()?)?;
+        }
+        Ok(more)
+    }
+
+    /// `"," parameter`
+    fn next_parameter(&mut self) -> Result<NextParameter, Fault>
+        ensures shorter { OnOk result (length self.new.rest.now < length self.old.rest.now) }
+        ensures agrees { ReadsAs result self.new.rest.now read_next_parameter self.old.rest.now }
+    {
+        let comma = self.take(TokenKind::Comma)?;
+        let parameter = self.parameter()?;
+        Ok(NextParameter { comma, parameter })
+    }
+
+    /// `[ "bank" ] NAME`
+    fn parameter(&mut self) -> Result<Parameter, Fault>
+        ensures shorter { OnOk result (length self.new.rest.now < length self.old.rest.now) }
+        ensures agrees { ReadsAs result self.new.rest.now read_parameter self.old.rest.now }
+    {
+        if self.is_next(TokenKind::Bank) {
+            let bank = self.take(TokenKind::Bank)?;
+            let name = self.take(TokenKind::Name)?;
+            Ok(Parameter {
+                bank: Some(bank),
+                name,
+            })
+        } else {
+            Ok(Parameter {
+                bank: None,
+                name: self.take(TokenKind::Name)?,
+            })
+        }
+    }
+}
