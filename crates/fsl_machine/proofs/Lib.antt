@@ -1,0 +1,5 @@
+pub mod Places
+pub mod Puts
+pub mod Snoc
+pub mod Serial
+pub mod Kept

@@ -1,0 +1,5 @@
+//! The memory machine on one thread.
+#![tactic(auto)]
+
+mod history;
+mod orders;
