@@ -165,3 +165,6 @@ puts_first l e os s t k writes ss ts place is one =
 
 pub below : (a b : ℤ) → int_lt a b ≡ true → a <ℤ b
 below a b h = by_lt_z a b (λ p. p) (λ q. absurd (not_below_itself b (le_lt b a q h)))
+
+pub below_other : (a b : ℤ) → a <ℤ b → int_eq a b ≡ false
+below_other a b h = not_equal a b (lt_is a b h)

@@ -1,3 +1,2 @@
 pub mod Configs
 pub mod Done
-pub mod Access

@@ -1,8 +1,7 @@
 //! The moves of a thread.
-ghost use Rattle.std.specs.Prelude.{◌≡◌, ◌<◌, length, slice_get, IsTrue, IsOk, IfOk, IfErr, OnErr, IfSome, Some};
+ghost use Rattle.std.specs.Prelude.{◌≡◌, ◌<◌, length, slice_get, IsTrue, IfOk, IsOkAnd};
 ghost use Rattle.fsl_core.specs.Moves.{need_of, moved, start_of};
 ghost use Rattle.fsl_core.specs.Straight.{is_straight};
-ghost use Rattle.fsl_moves.specs.Access.{IsAccess};
 ghost use Rattle.fsl_moves.specs.Configs.{config_of, body_of, params_of, Fits};
 
 use crate::acts::{Done, asked, carried_out};
@@ -36,11 +35,11 @@ fn body_of(p: &Program, proc: u32) -> &[Stmt]
     p.procs.as_slice()[proc as usize].body.as_slice()
 }
 
-/// What the next move asks. On a straight program it takes no memory.
+/// What the next move asks. It finds memory always: only a Fork of other programs would take some.
 pub fn next(_alloc: Global, p: &Program, c: &Config) -> Result<Need, AllocError>
     requires straight { IsTrue (is_straight p.now) }
     requires fits { Fits p.now c.now }
-    ensures { IfOk result (λ need. need ≡ need_of p.now (config_of p.now c.now)) }
+    ensures { IsOkAnd result (λ need. need ≡ need_of p.now (config_of p.now c.now)) }
 {
     match c {
         Config::Running { proc, at, env } => match body_of(p, *proc).get(*at) {
@@ -54,8 +53,8 @@ pub fn next(_alloc: Global, p: &Program, c: &Config) -> Result<Need, AllocError>
 }
 
 /// Makes the next move with the answer to what it asks, and gives its label, `None` exactly where the
-/// move is local. An answer of another kind fails the thread. Where the move is an access of memory it
-/// takes none; after want of memory the configuration is as it was.
+/// move is local. An answer of another kind fails the thread. It finds memory always, as `next` does, and
+/// takes the time of its statement alone.
 pub fn advance(
     _alloc: Global,
     p: &Program,
@@ -64,10 +63,8 @@ pub fn advance(
 ) -> Result<Option<Label>, AllocError>
     requires straight { IsTrue (is_straight p.now) }
     requires fits { Fits p.now c.old }
-    ensures moved { IfOk result (λ label. moved p.now (config_of p.now c.old) reply ≡ record { config = config_of p.now c.new; label = label }) }
+    ensures moved { IsOkAnd result (λ label. moved p.now (config_of p.now c.old) reply ≡ record { config = config_of p.now c.new; label = label }) }
     ensures fits { Fits p.now c.new }
-    ensures kept { OnErr result (c.new ≡ c.old) }
-    ensures frugal { IsAccess (need_of p.now (config_of p.now c.old)) → IsOk result }
 {
     let Config::Running { proc, at, env } = c else {
         return Ok(None);
