@@ -6,3 +6,5 @@ pub mod Kept
 pub mod Moves
 pub mod Runs
 pub mod Lone
+pub mod Executions
+pub mod Steps

@@ -50,3 +50,7 @@ IsEnd p bound g last ends.Spent =
 IsEnd p bound g last (ends.Limit kind) =
     (moves_of g.threads < bound)
     × ((t : ℕ) × (t < length g.threads) × IsReady last (last t) × (limit_of (need_of p (last t)) g ≡ Some kind))
+
+-- some thread is ready, and the moves don't add up to the bound
+abbrev pub MayGoOn : (bound : ℕ) → Graph → (ℕ → Config) → Type 0
+MayGoOn bound g last = (moves_of g.threads < bound) × ((t : ℕ) × (t < length g.threads) × IsReady last (last t))

@@ -1,12 +1,15 @@
 //! What the thread has done so far.
 ghost use Rattle.std.specs.Prelude.{◌≡◌, [], ◌∷◌, ◌++◌, OnOk, OnErr, Some, true, length, vec_capacity, ◌<◌, ◌^◌, ◌+◌};
-ghost use Rattle.fsl_graph.specs.Lone.{is_plain};
+ghost use Rattle.fsl_graph.specs.Lone.{is_plain, IsLone};
+ghost use Rattle.fsl_machine.specs.Serial.{IsSerial, IsPlaced};
+ghost use Rattle.fsl_machine.specs.States.{with_trace};
 ghost use Rattle.fsl_machine.specs.Orders.{Ascends};
 ghost use Rattle.fsl_machine.specs.Trace.{allocations, messages, is_alloc, is_write, value_by, value_at, answer_of, source_in, ordered, recorded, IsNext};
 
 use crate::orders::{last_write, put};
+use fsl_base::List;
 use fsl_core::{Label, Need, Reply};
-use fsl_graph::{Event, Order};
+use fsl_graph::{Event, Graph, Order, Thread};
 use std::alloc::{AllocError, Global};
 use std::marker::Model;
 
@@ -73,6 +76,20 @@ impl History {
                 loc: i64::from(self.allocated) + 1,
             },
             _ => Reply::Nothing,
+        }
+    }
+
+    /// The graph of these threads, all of whose moves are those of the history.
+    pub(crate) fn graph(self, threads: List<Thread>) -> Graph
+        ensures graph { result ≡ with_trace threads self }
+        ensures lone { IsLone (with_trace threads self) }
+        ensures serial { IsSerial self.events self.mo }
+        ensures placed { IsPlaced self.events (allocations self.events) }
+    {
+        Graph {
+            threads,
+            events: List::from_vec(self.events),
+            mo: List::from_vec(self.orders),
         }
     }
 

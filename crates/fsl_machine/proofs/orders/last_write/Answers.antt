@@ -1,7 +1,6 @@
 use Rattle.std.proofs.Common.{ap, sym, ◌∙◌}
 use Rattle.fsl_machine.specs.Orders.{last_of}
 use Rattle.fsl_machine.proofs.Places.{has_writes, has_no_writes}
-use Rattle.fsl_machine.proofs.Lone.{is_lone}
 use Rattle.fsl_machine.proofs.orders.last_write.Goals as goal
 
 pub returns-then-is_at : goal.returns-then-is_at
