@@ -16,7 +16,7 @@ use Rattle.fsl_machine.proofs.Snoc.{get_cases}
 places_cases : (es : List Event) (x : Event) (e : ℕ) (k : AllocKind) (l : ℤ) → Places (es ++ x ∷ []) e k l
     → Places es e k l ⊎ ((e ≡ length es) × (x.label ≡ label.Alloc k l))
 places_cases es x e k l s = elim (get_cases es x e s.event s.is) [
-  inl p ↦ inl (record { event = s.event; is = p; places = s.places })
+  | inl p ↦ inl (record { event = s.event; is = p; places = s.places })
   | inr q ↦ inr (q.0, ap (λ (y : Event). y.label) q.1 ∙ s.places)
 ]
 
@@ -24,12 +24,12 @@ placed_other : (es : List Event) (x : Event) (n : ℕ) → ((k : AllocKind) (l :
     → IsPlaced es n → IsPlaced (es ++ x ∷ []) n
 placed_other es x n never placed = record {
   within = λ e k l s. elim (places_cases es x e k l s) [
-    inl p ↦ placed.within e k l p
+    | inl p ↦ placed.within e k l p
     | inr q ↦ absurd (never k l q.1)
   ];
   once = λ d e j k l s t. elim (places_cases es x d j l s) [
-    inl p ↦ elim (places_cases es x e k l t) [
-      inl q ↦ placed.once d e j k l p q
+    | inl p ↦ elim (places_cases es x e k l t) [
+      | inl q ↦ placed.once d e j k l p q
       | inr q ↦ absurd (never k l q.1)
     ]
     | inr p ↦ absurd (never j l p.1)
@@ -51,16 +51,16 @@ placed_alloc : (es : List Event) (x : Event) (n : ℕ) (k : AllocKind) → x.lab
     → IsPlaced es n → IsPlaced (es ++ x ∷ []) (suc n)
 placed_alloc es x n k0 is placed = record {
   within = λ e k l s. elim (places_cases es x e k l s) [
-    inl p ↦ (let old = placed.within e k l p in (old.0, (let under = old.1 in omega arith), old.2))
+    | inl p ↦ (let old = placed.within e k l p in (old.0, (let under = old.1 in omega arith), old.2))
     | inr q ↦ (n, omega arith, alloc_is x k k0 l (pos (suc n)) q.1 is)
   ];
   once = λ d e j k l s t. elim (places_cases es x d j l s) [
-    inl p ↦ elim (places_cases es x e k l t) [
-      inl q ↦ placed.once d e j k l p q
+    | inl p ↦ elim (places_cases es x e k l t) [
+      | inl q ↦ placed.once d e j k l p q
       | inr q ↦ absurd (fresh es n d j l placed p (alloc_is x k k0 l (pos (suc n)) q.1 is))
     ]
     | inr p ↦ elim (places_cases es x e k l t) [
-      inl q ↦ absurd (fresh es n e k l placed q (alloc_is x j k0 l (pos (suc n)) p.1 is))
+      | inl q ↦ absurd (fresh es n e k l placed q (alloc_is x j k0 l (pos (suc n)) p.1 is))
       | inr q ↦ p.0 ∙ sym q.0
     ]
   ];
@@ -106,8 +106,8 @@ pub record_keeps : (t s : Trace) (x : Label) (n m a b k : ℕ) (is_a is_w : Bool
 record_keeps t s x n m a b k is_a is_w old es os mo from kept plain view next es_is old_is from_is os_is mo_is k_is a_is isa_is b_is isw_is =
     let source : from ≡ source_of t x = from_is ∙ ap (λ (q : List Order). source_in q x) os_is in
     let events : es ≡ (recorded x t).events =
-      es_is ∙ ap (λ (q : List Event). q ++ record { thread = 0; label = x; from = from } ∷ []) old_is
-      ∙ ap (λ (q : Option ℕ). t.events ++ record { thread = 0; label = x; from = q } ∷ []) source in
+    es_is ∙ ap (λ (q : List Event). q ++ record { thread = 0; label = x; from = from } ∷ []) old_is
+    ∙ ap (λ (q : Option ℕ). t.events ++ record { thread = 0; label = x; from = q } ∷ []) source in
     let orders : mo ≡ (recorded x t).mo = mo_is ∙ ap (λ j. ordered j x t.mo) (k_is ∙ ap length old_is) in
     let one : a ≡ cond (is_alloc x) 1 0 = a_is ∙ ap bool_byte isa_is ∙ byte_is (is_alloc x) in
     let two : b ≡ cond (is_write x) 1 0 = b_is ∙ ap bool_byte isw_is ∙ byte_is (is_write x) in

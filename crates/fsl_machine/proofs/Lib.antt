@@ -8,3 +8,4 @@ pub mod Runs
 pub mod Lone
 pub mod Executions
 pub mod Steps
+pub mod Returned

@@ -126,9 +126,9 @@ listed_at threads t l e k h x =
 same_index : (es : List Event) (mo : List Order) (l : ℤ) (i j e : ℕ) → IsSerial es mo → slice_get (writes_of mo l) i ≡ Some e
     → slice_get (writes_of mo l) j ≡ Some e → i ≡ j
 same_index es mo l i j e kept p q = elim (cases_lt i j) [
-  inl a ↦ (let under = kept.rising l i j e e a p q in absurd (omega arith))
+  | inl a ↦ (let under = kept.rising l i j e e a p q in absurd (omega arith))
   | inr b ↦ elim (cases_lt j i) [
-    inl a ↦ (let under = kept.rising l j i e e a q p in absurd (omega arith))
+    | inl a ↦ (let under = kept.rising l j i e e a q p in absurd (omega arith))
     | inr d ↦ omega arith
   ]
 ]

@@ -69,7 +69,7 @@ plain_stmts t p [] env n h = record { asks = refl; shows = refl }
 plain_stmts t p (s ∷ ss) env n h =
     let one : is_straight_act s.act n ≡ true = (and_parts (is_straight_act s.act n) (list_all (λ x. is_straight_act x.act n) ss) h).0 in
     let layer : is_straight_act s.act ≡ straight_step (map-Act Act Stmt Test Test is_straight_act is_straight_stmt (out-Act s.act)) =
-      fold_out-Act Test Test straight_step (λ x. x.act) s.act in
+    fold_out-Act Test Test straight_step (λ x. x.act) s.act in
     plain_act t p (out-Act s.act) s (frame ss env) n (sym (ap (λ (q : Test). q n) layer) ∙ one)
 
 all_drop : (n i : ℕ) (ss : List Stmt) → list_all (λ s. is_straight_act s.act n) ss ≡ true → list_all (λ s. is_straight_act s.act n) (drop i ss) ≡ true

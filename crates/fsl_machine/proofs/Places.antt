@@ -161,7 +161,7 @@ puts_first l e os s t k writes ss ts place is one =
     ap (λ (ws : List ℕ). take k os ++ record { loc = l; writes = ws } ∷ drop k os) one
     ∙ ap (λ n. take n os ++ begun l e ∷ drop n os) k_is
     ∙ sym (put_absent l e os (begun l e) (not_there l os (place_of l os) (begun l e)
-        (subst (λ n. is_at l (slice_get os n) ≡ false) k_is (subst (λ (x : List Order). is_at l (slice_get x k) ≡ false) ts is))))
+    (subst (λ n. is_at l (slice_get os n) ≡ false) k_is (subst (λ (x : List Order). is_at l (slice_get x k) ≡ false) ts is))))
 
 pub below : (a b : ℤ) → int_lt a b ≡ true → a <ℤ b
 below a b h = by_lt_z a b (λ p. p) (λ q. absurd (not_below_itself b (le_lt b a q h)))

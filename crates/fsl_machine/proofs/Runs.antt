@@ -63,9 +63,12 @@ starts_none g _ x h = cc
 -- ---- runs in a graph with more events
 
 started_more : (m k : ℕ) (t u : Trace) (first : ℕ) (call : Started) → IsStarted (lone_graph m t) first call → IsStarted (lone_graph k u) first call
-started_more m k t u zero call h = (record { proc = 0; args = []; moves = k }, refl,
-    (let same : record { proc = 0; args = []; moves = m } ≡ h.0 = let e = h.1 in cc in ap (λ (x : Thread). x.proc) same ∙ h.2),
-    (let same : record { proc = 0; args = []; moves = m } ≡ h.0 = let e = h.1 in cc in ap (λ (x : Thread). x.args) same ∙ h.3))
+started_more m k t u zero call h = (
+  record { proc = 0; args = []; moves = k },
+  refl,
+  (let same : record { proc = 0; args = []; moves = m } ≡ h.0 = let e = h.1 in cc in ap (λ (x : Thread). x.proc) same ∙ h.2),
+  (let same : record { proc = 0; args = []; moves = m } ≡ h.0 = let e = h.1 in cc in ap (λ (x : Thread). x.args) same ∙ h.3),
+)
 started_more m k t u (suc first) call h = let e = h.1 in cc
 
 all_started_more : (m k : ℕ) (t u : Trace) (first : ℕ) (calls : List Started) → AreStarted (lone_graph m t) first calls → AreStarted (lone_graph k u) first calls
@@ -110,13 +113,13 @@ numbered_more n (x ∷ xs) y h =
     let place : suc n + length xs ≡ n + length (x ∷ xs) = omega arith in
     let rest = numbered_more (suc n) xs y h in
     let there : numbered_of 0 (suc n) (xs ++ y ∷ []) ≡ numbered_of 0 (suc n) xs ++ (n + length (x ∷ xs)) ∷ [] =
-      rest ∙ ap (λ k. numbered_of 0 (suc n) xs ++ k ∷ []) place in
+    rest ∙ ap (λ k. numbered_of 0 (suc n) xs ++ k ∷ []) place in
     split (x.thread == 0) there where
-  split : (b : Bool) → numbered_of 0 (suc n) (xs ++ y ∷ []) ≡ numbered_of 0 (suc n) xs ++ (n + length (x ∷ xs)) ∷ []
-      → cond b (n ∷ numbered_of 0 (suc n) (xs ++ y ∷ [])) (numbered_of 0 (suc n) (xs ++ y ∷ []))
-      ≡ cond b (n ∷ numbered_of 0 (suc n) xs) (numbered_of 0 (suc n) xs) ++ (n + length (x ∷ xs)) ∷ []
-  split true e = ap (λ (ks : List ℕ). n ∷ ks) e
-  split false e = e
+      split : (b : Bool) → numbered_of 0 (suc n) (xs ++ y ∷ []) ≡ numbered_of 0 (suc n) xs ++ (n + length (x ∷ xs)) ∷ []
+          → cond b (n ∷ numbered_of 0 (suc n) (xs ++ y ∷ [])) (numbered_of 0 (suc n) (xs ++ y ∷ []))
+          ≡ cond b (n ∷ numbered_of 0 (suc n) xs) (numbered_of 0 (suc n) xs) ++ (n + length (x ∷ xs)) ∷ []
+      split true e = ap (λ (ks : List ℕ). n ∷ ks) e
+      split false e = e
 
 events_more : (m k : ℕ) (t : Trace) (x : Label) → events_of (lone_graph k (recorded x t)) 0 ≡ events_of (lone_graph m t) 0 ++ length t.events ∷ []
 events_more m k t x =
@@ -142,14 +145,14 @@ one_move p c d e m t n None runs need_is plain label_is made config_is =
     let grew = runs_more m (m + 1) t t (λ k x h. h) runs in
     let last : (moved p d reply.Nothing).config ≡ e = ap (λ (r : Reply). (moved p d r).config) (sym local.1) ∙ config_is in
     subst (λ (q : Config). Runs p (lone_graph (m + 1) t) c (m + 1) (events_of (lone_graph (m + 1) t) 0) q) last
-      (subst (λ k. Runs p (lone_graph (m + 1) t) c k (events_of (lone_graph m t) 0) (moved p d reply.Nothing).config) (next_is m) (then_silent grew step))
+    (subst (λ k. Runs p (lone_graph (m + 1) t) c k (events_of (lone_graph m t) 0) (moved p d reply.Nothing).config) (next_is m) (then_silent grew step))
 one_move p c d e m t n (Some x) runs need_is plain label_is made config_is =
     let shown = is_shown t n x plain (sym label_is) in
     let u = recorded x t in
     let makes : moved p d (reply_of x) ≡ showing x e =
-      ap (moved p d) shown.reply ∙ ap (λ (q : Config). showing_of q (moved p d (answer_of t n)).label) config_is ∙ ap (showing_of e) made in
+    ap (moved p d) shown.reply ∙ ap (λ (q : Config). showing_of q (moved p d (answer_of t n)).label) config_is ∙ ap (showing_of e) made in
     let grew = runs_more m (m + 1) t u (λ k y h. get_more t.events (event_of t x ∷ []) k y h) runs in
     let starts : StartsChildren (lone_graph (m + 1) u) (need_of p d) x = subst (λ (q : Need). StartsChildren (lone_graph (m + 1) u) q x) need_is (starts_none (lone_graph (m + 1) u) n x plain) in
     subst (λ (es : List ℕ). Runs p (lone_graph (m + 1) u) c (m + 1) es e) (sym (events_more m (m + 1) t x))
-      (subst (λ k. Runs p (lone_graph (m + 1) u) c k (events_of (lone_graph m t) 0 ++ length t.events ∷ []) e) (next_is m)
-        (then_shows e (length t.events) (event_of t x) grew (get_last t.events (event_of t x)) makes starts))
+    (subst (λ k. Runs p (lone_graph (m + 1) u) c k (events_of (lone_graph m t) 0 ++ length t.events ∷ []) e) (next_is m)
+    (then_shows e (length t.events) (event_of t x) grew (get_last t.events (event_of t x)) makes starts))

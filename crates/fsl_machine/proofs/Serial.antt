@@ -27,7 +27,7 @@ stores_before es x e l v s k = record { event = s.event; is = get_before es x e 
 stores_cases : (es : List Event) (x : Event) (e : ℕ) (l v : ℤ) → Stores (es ++ x ∷ []) e l v
     → Stores es e l v ⊎ ((e ≡ length es) × (x.label ≡ label.Store mode.Na l v))
 stores_cases es x e l v s = elim (get_cases es x e s.event s.is) [
-  inl p ↦ inl (record { event = s.event; is = p; stores = s.stores })
+  | inl p ↦ inl (record { event = s.event; is = p; stores = s.stores })
   | inr q ↦ inr (q.0, ap (λ (y : Event). y.label) q.1 ∙ s.stores)
 ]
 
@@ -48,28 +48,32 @@ last_or_before i n h = elim (cases_lt i (n - 1)) [ inl a ↦ inr a | inr b ↦ i
 -- what the last write of a location has stored is the source of a load behind all events
 pub last_is : (es : List Event) (mo : List Order) (l : ℤ) (ws : List ℕ) (n : ℕ) → IsSerial es mo → writes_of mo l ≡ ws → n ≡ length es
     → (o : Option ℕ) → last_of ws ≡ o → IsLastOf es n l (value_from es o) o
-last_is es mo l ws n kept is all None last = (refl, λ w u below s.
-    let found = kept.every w l u s in
-    let at : slice_get ws found.0 ≡ Some w = ap (λ (x : List ℕ). slice_get x found.0) (sym is) ∙ found.1 in
-    let within = get_within ws found.0 w at in
-    let there = get_there ws (length ws - 1) (omega arith) in
-    let clash : None ≡ Some there.0 = sym last ∙ there.1 in
-    cc)
+last_is es mo l ws n kept is all None last = (
+  refl,
+  λ w u below s.
+      let found = kept.every w l u s in
+      let at : slice_get ws found.0 ≡ Some w = ap (λ (x : List ℕ). slice_get x found.0) (sym is) ∙ found.1 in
+      let within = get_within ws found.0 w at in
+      let there = get_there ws (length ws - 1) (omega arith) in
+      let clash : None ≡ Some there.0 = sym last ∙ there.1 in
+      cc,
+)
 last_is es mo l ws n kept is all (Some s) last =
     let at : slice_get (writes_of mo l) (length ws - 1) ≡ Some s = ap (λ (x : List ℕ). slice_get x (length ws - 1)) is ∙ last in
     let stored = kept.only l (length ws - 1) s at in
-    let value : value_by (slice_get es s) ≡ stored.0 = ap value_by (stored.1.is) ∙ ap (λ (x : Label). value_by (Some (record { thread = 0; label = x; from = None }))) stored.1.stores in
-    (rw all (stores_within es s l stored.0 stored.1),
+    let value : value_by (slice_get es s) ≡ stored.0 = ap value_by (stored.1.is) ∙ ap (λ (x : Label). value_by (Some (record { thread = 0; label = x; from = None }))) stored.1.stores in (
+      rw all (stores_within es s l stored.0 stored.1),
       rw value stored.1,
       λ w u after before t.
-        let found = kept.every w l u t in
-        let place : slice_get ws found.0 ≡ Some w = ap (λ (x : List ℕ). slice_get x found.0) (sym is) ∙ found.1 in
-        let within = get_within ws found.0 w place in
-        elim (last_or_before found.0 (length ws) within) [
-          inl here ↦ (let same : Some w ≡ Some s = sym found.1 ∙ ap (slice_get (writes_of mo l)) here ∙ at in
-              let equal : w ≡ s = cc in omega arith)
-          | inr there ↦ (let under = kept.rising l found.0 (length ws - 1) w s there found.1 at in omega arith)
-        ])
+          let found = kept.every w l u t in
+          let place : slice_get ws found.0 ≡ Some w = ap (λ (x : List ℕ). slice_get x found.0) (sym is) ∙ found.1 in
+          let within = get_within ws found.0 w place in
+          elim (last_or_before found.0 (length ws) within) [
+            | inl here ↦ (let same : Some w ≡ Some s = sym found.1 ∙ ap (slice_get (writes_of mo l)) here ∙ at in
+                let equal : w ≡ s = cc in omega arith)
+            | inr there ↦ (let under = kept.rising l found.0 (length ws - 1) w s there found.1 at in omega arith)
+          ],
+    )
 
 lt_le : (m n : ℕ) → m < n → m ≤ n
 lt_le m n h = omega arith
@@ -84,14 +88,14 @@ last_more es x e l v (Some s) k h =
 thread_more : (es : List Event) (mo : List Order) (x : Event) → IsSerial es mo → x.thread ≡ 0
     → (e : ℕ) (y : Event) → slice_get (es ++ x ∷ []) e ≡ Some y → y.thread ≡ 0
 thread_more es mo x kept zero_is e y h = elim (get_cases es x e y h) [
-  inl p ↦ kept.thread e y p
+  | inl p ↦ kept.thread e y p
   | inr q ↦ sym (ap (λ (z : Event). z.thread) q.1) ∙ zero_is
 ]
 
 plain_more : (es : List Event) (mo : List Order) (x : Event) → IsSerial es mo → is_plain x.label ≡ true
     → (e : ℕ) (y : Event) → slice_get (es ++ x ∷ []) e ≡ Some y → is_plain y.label ≡ true
 plain_more es mo x kept plain e y h = elim (get_cases es x e y h) [
-  inl p ↦ kept.plain e y p
+  | inl p ↦ kept.plain e y p
   | inr q ↦ sym (ap (λ (z : Event). is_plain z.label) q.1) ∙ plain
 ]
 
@@ -110,7 +114,7 @@ no_source t (label.End v) h = refl
 others_more : (t : Trace) (x : Label) → IsSerial t.events t.mo
     → (e : ℕ) (y : Event) → slice_get (t.events ++ event_of t x ∷ []) e ≡ Some y → read_by y.label ≡ None → y.from ≡ None
 others_more t x kept e y h none = elim (get_cases t.events (event_of t x) e y h) [
-  inl p ↦ kept.others e y p none
+  | inl p ↦ kept.others e y p none
   | inr q ↦ sym (ap (λ (z : Event). z.from) q.1) ∙ no_source t x (ap (λ (z : Event). read_by z.label) q.1 ∙ none)
 ]
 
@@ -125,7 +129,7 @@ loads_more : (t : Trace) (x : Label) → IsSerial t.events t.mo → IsNext t x
     → (e : ℕ) (y : Event) (l v : ℤ) → slice_get (t.events ++ event_of t x ∷ []) e ≡ Some y → y.label ≡ label.Load mode.Na l v
     → IsLastOf (t.events ++ event_of t x ∷ []) e l v y.from
 loads_more t x kept next e y l v h is = elim (get_cases t.events (event_of t x) e y h) [
-  inl p ↦ last_more t.events (event_of t x) e l v y.from (lt_le e (length t.events) (get_within t.events e y p)) (kept.loads e y l v p is)
+  | inl p ↦ last_more t.events (event_of t x) e l v y.from (lt_le e (length t.events) (get_within t.events e y p)) (kept.loads e y l v p is)
   | inr q ↦ subst (λ (o : Option ℕ). IsLastOf (t.events ++ event_of t x ∷ []) e l v o) (ap (λ (z : Event). z.from) q.1)
       (subst (λ n. IsLastOf (t.events ++ event_of t x ∷ []) n l v (source_of t x)) (sym q.0)
       (last_more t.events (event_of t x) (length t.events) l v (source_of t x) (omega arith)
@@ -137,7 +141,7 @@ loads_more t x kept next e y l v h is = elim (get_cases t.events (event_of t x) 
 every_other : (es : List Event) (mo : List Order) (x : Event) → IsSerial es mo → ((l v : ℤ) → x.label ≡ label.Store mode.Na l v → ⊥)
     → (e : ℕ) (l v : ℤ) → Stores (es ++ x ∷ []) e l v → (i : ℕ) × (slice_get (writes_of mo l) i ≡ Some e)
 every_other es mo x kept never e l v s = elim (stores_cases es x e l v s) [
-  inl p ↦ kept.every e l v p
+  | inl p ↦ kept.every e l v p
   | inr q ↦ absurd (never l v q.1)
 ]
 
@@ -161,13 +165,13 @@ grown mo n at l h = go (int_eq at l) refl where
 every_store : (es : List Event) (mo : List Order) (x : Event) (at u : ℤ) → IsSerial es mo → x.label ≡ label.Store mode.Na at u
     → (e : ℕ) (l v : ℤ) → Stores (es ++ x ∷ []) e l v → (i : ℕ) × (slice_get (writes_of (put at (length es) mo) l) i ≡ Some e)
 every_store es mo x at u kept is e l v s = elim (stores_cases es x e l v s) [
-  inl p ↦ (let old = kept.every e l v p in elim (grown mo (length es) at l kept.ascend) [
-    inl g ↦ (old.0, rw g.1 (get_more (writes_of mo l) (length es ∷ []) old.0 e old.1))
+  | inl p ↦ (let old = kept.every e l v p in elim (grown mo (length es) at l kept.ascend) [
+    | inl g ↦ (old.0, rw g.1 (get_more (writes_of mo l) (length es ∷ []) old.0 e old.1))
     | inr g ↦ (old.0, rw g.1 old.1)
   ])
   | inr q ↦ (let labels : label.Store mode.Na at u ≡ label.Store mode.Na l v = sym is ∙ q.1 in let same : at ≡ l = cc in
       elim (grown mo (length es) at l kept.ascend) [
-        inl g ↦ (length (writes_of mo l), rw (g.1, q.0) (get_last (writes_of mo l) (length es)))
+        | inl g ↦ (length (writes_of mo l), rw (g.1, q.0) (get_last (writes_of mo l) (length es)))
         | inr g ↦ absurd (g.0 same)
       ])
 ]
@@ -175,13 +179,16 @@ every_store es mo x at u kept is e l v s = elim (stores_cases es x e l v s) [
 only_store : (es : List Event) (mo : List Order) (x : Event) (at u : ℤ) → IsSerial es mo → x.label ≡ label.Store mode.Na at u
     → (l : ℤ) (i e : ℕ) → slice_get (writes_of (put at (length es) mo) l) i ≡ Some e → (v : ℤ) × Stores (es ++ x ∷ []) e l v
 only_store es mo x at u kept is l i e h = elim (grown mo (length es) at l kept.ascend) [
-  inl g ↦ elim (get_cases (writes_of mo l) (length es) i e (rw g.1 at h)) [
-    inl p ↦ only_other es mo x kept l i e p
-    | inr q ↦ (u, record {
-      event = x;
-      is = subst (λ n. slice_get (es ++ x ∷ []) n ≡ Some x) q.1 (get_last es x);
-      stores = is ∙ ap (λ (k : ℤ). label.Store mode.Na k u) g.0;
-    })
+  | inl g ↦ elim (get_cases (writes_of mo l) (length es) i e (rw g.1 at h)) [
+    | inl p ↦ only_other es mo x kept l i e p
+    | inr q ↦ (
+      u,
+      record {
+        event = x;
+        is = subst (λ n. slice_get (es ++ x ∷ []) n ≡ Some x) q.1 (get_last es x);
+        stores = is ∙ ap (λ (k : ℤ). label.Store mode.Na k u) g.0;
+      },
+    )
   ]
   | inr g ↦ only_other es mo x kept l i e (rw g.1 at h)
 ]
@@ -190,8 +197,8 @@ rising_store : (es : List Event) (mo : List Order) (at : ℤ) → IsSerial es mo
     → (l : ℤ) (i j a b : ℕ) → i < j → slice_get (writes_of (put at (length es) mo) l) i ≡ Some a
     → slice_get (writes_of (put at (length es) mo) l) j ≡ Some b → a < b
 rising_store es mo at kept l i j a b less h k = elim (grown mo (length es) at l kept.ascend) [
-  inl g ↦ elim (get_cases (writes_of mo l) (length es) j b (rw g.1 at k)) [
-    inl p ↦ (let under = get_within (writes_of mo l) j b p in
+  | inl g ↦ elim (get_cases (writes_of mo l) (length es) j b (rw g.1 at k)) [
+    | inl p ↦ (let under = get_within (writes_of mo l) j b p in
         kept.rising l i j a b less (get_before (writes_of mo l) (length es) i a (rw g.1 at h) (omega arith)) p)
     | inr q ↦ (let old = get_before (writes_of mo l) (length es) i a (rw g.1 at h) (omega arith) in
         let stored = kept.only l i a old in
@@ -221,16 +228,16 @@ stored : (t : Trace) (l v : ℤ) → IsSerial t.events t.mo
     → IsSerial (t.events ++ event_of t (label.Store mode.Na l v) ∷ []) (put l (length t.events) t.mo)
 stored t l v kept =
     let x = label.Store mode.Na l v in record {
-  thread = thread_more t.events t.mo (event_of t x) kept refl;
-  plain = plain_more t.events t.mo (event_of t x) kept refl;
-  loads = loads_more t x kept tt;
-  others = others_more t x kept;
-  ascend = ascends_put l (length t.events) t.mo kept.ascend;
-  begun = begun_put l (length t.events) t.mo kept.begun;
-  every = every_store t.events t.mo (event_of t x) l v kept refl;
-  only = only_store t.events t.mo (event_of t x) l v kept refl;
-  rising = rising_store t.events t.mo l kept;
-}
+      thread = thread_more t.events t.mo (event_of t x) kept refl;
+      plain = plain_more t.events t.mo (event_of t x) kept refl;
+      loads = loads_more t x kept tt;
+      others = others_more t x kept;
+      ascend = ascends_put l (length t.events) t.mo kept.ascend;
+      begun = begun_put l (length t.events) t.mo kept.begun;
+      every = every_store t.events t.mo (event_of t x) l v kept refl;
+      only = only_store t.events t.mo (event_of t x) l v kept refl;
+      rising = rising_store t.events t.mo l kept;
+    }
 
 -- one more event that the memory answers
 pub serial_more : (t : Trace) (x : Label) → IsSerial t.events t.mo → is_plain x ≡ true → IsNext t x

@@ -70,8 +70,8 @@ steps_on p bound c d m t u n r label run ready more need_is reply_is label_is gr
       within = omega (arith, within, more);
       short = grown_length label t m run.short;
       runs = one_move p (start_of p 0 []) (config_of p c) (config_of p d) m t n label run.runs need_is (rw need_is move.asks) label_of
-        (label_made p bound c m t n run ready need_is ∙ sym label_of)
-        (sym (moves ∙ ap (λ (q : Reply). (moved p (config_of p c) q).config) reply_is));
+          (label_made p bound c m t n run ready need_is ∙ sym label_of)
+          (sym (moves ∙ ap (λ (q : Reply). (moved p (config_of p c) q).config) reply_is));
     })
 
 -- ---- the state
@@ -98,9 +98,9 @@ makes_next p bound c d m t u n r label s run view ready more need_is free reply_
     let reply : r ≡ answer_of t (need_in q) = reply_is ∙ ap (answer_of t) need_is in
     let config : config_of p d ≡ (move_in q).config = moves ∙ ap (λ (k : Reply). (moved p (config_of p c) k).config) reply in
     let shown : label ≡ (move_in q).label =
-      label_is ∙ ap (label_by n) reply_is ∙ sym (label_made p bound c m t n run ready need_is)
-      ∙ ap (λ (k : Need). (moved p (config_of p c) (answer_of t k)).label) need_is in
+    label_is ∙ ap (label_by n) reply_is ∙ sym (label_made p bound c m t n run ready need_is)
+    ∙ ap (λ (k : Need). (moved p (config_of p c) (answer_of t k)).label) need_is in
     let trace : u ≡ grown (move_in q).label t = grows ∙ ap (λ (k : Option Label). grown k t) shown in
     let next : state_of p bound d (m + 1) u ≡ next_state q =
-      ap (λ (k : Config). state_with p bound k m u) config ∙ ap (λ (k : Trace). state_with p bound (move_in q).config m k) trace in
+    ap (λ (k : Config). state_with p bound k m u) config ∙ ap (λ (k : Trace). state_with p bound (move_in q).config m k) trace in
     subst (λ (v : State). (refusal_of v ≡ None) × (state_of p bound d (m + 1) u ≡ next_state v)) view (goes, next)

@@ -26,7 +26,7 @@ pub(crate) struct History {
 
 impl Model for History {
     ghost use Rattle.fsl_machine.specs.Orders.{Ascends};
-ghost use Rattle.fsl_machine.specs.Trace.{Trace};
+    ghost use Rattle.fsl_machine.specs.Trace.{Trace};
     ghost use Rattle.fsl_machine.specs.Serial.{IsKept};
 
     ghost Value = { Trace };
@@ -140,7 +140,12 @@ fn source_of(orders: &[Order], label: &Label) -> Option<u32>
 }
 
 /// Puts a store behind the other writes of its location. For want of memory the orders stay.
-fn order(alloc: Global, orders: &mut Vec<Order>, label: &Label, number: u32) -> Result<(), AllocError>
+fn order(
+    alloc: Global,
+    orders: &mut Vec<Order>,
+    label: &Label,
+    number: u32,
+) -> Result<(), AllocError>
     requires { Ascends orders.old.items }
     ensures ordered { OnOk result (orders.new.items ≡ ordered number label.now orders.old.items) }
     ensures kept { OnErr result (orders.new.items ≡ orders.old.items) }

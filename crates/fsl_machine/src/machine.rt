@@ -1,5 +1,5 @@
 //! The machine: a program with the moves that its thread has made.
-ghost use Rattle.std.specs.Prelude.{◌≡◌, ◌<◌, length, IfOk, IfSome, IfNone, IsTrue, if◌then◌else◌};
+ghost use Rattle.std.specs.Prelude.{◌≡◌, ◌<◌, ◌≤◌, length, IfOk, IfSome, IfNone, IsTrue, if◌then◌else◌};
 ghost use Rattle.fsl_core.specs.Straight.{is_straight};
 ghost use Rattle.fsl_core.specs.declared.program.Program.{Program};
 ghost use Rattle.fsl_moves.specs.Configs.{config_of};
@@ -8,7 +8,7 @@ ghost use Rattle.fsl_graph.specs.Execution.{IsExecution};
 ghost use Rattle.fsl_graph.specs.Sequenced.{IsAcyclic};
 ghost use Rattle.fsl_machine.specs.Ends.{IsEnd, MayGoOn};
 ghost use Rattle.fsl_machine.specs.States.{first_state, need_in};
-ghost use Rattle.fsl_machine.specs.Steps.{readiness_of, Steps, asks};
+ghost use Rattle.fsl_machine.specs.Steps.{readiness_of, Steps, IfLimit, asks};
 
 use crate::ends::{End, Readiness, Stepped};
 use crate::history::History;
@@ -102,6 +102,10 @@ impl Machine {
     pub fn step<C: Choose>(&mut self, thread: u32, choose: &mut C) -> Stepped
         requires { thread < length self.old.graph.threads }
         ensures step { Steps result self.old self.new }
+        ensures limit { IfLimit result (λ kind. IsEnd self.old.program self.old.bound self.old.graph (λ t. self.old.config) (End.Limit kind)) }
+        ensures program { self.new.program ≡ self.old.program }
+        ensures bound { self.new.bound ≡ self.old.bound }
+        ensures threads { length self.old.graph.threads ≤ length self.new.graph.threads }
         ensures choice { choose.new ≡ (if asks result (need_in self.old) then C.rest choose.old 1 else choose.old) }
     {
         let why = readiness(&self.config);

@@ -46,7 +46,12 @@ pub(crate) fn last_write(orders: &[Order], loc: &i64) -> Option<u32>
 }
 
 /// Puts a write behind the others of its location. For want of memory the orders stay as they were.
-pub(crate) fn put(alloc: Global, orders: &mut Vec<Order>, loc: &i64, write: u32) -> Result<(), AllocError>
+pub(crate) fn put(
+    alloc: Global,
+    orders: &mut Vec<Order>,
+    loc: &i64,
+    write: u32,
+) -> Result<(), AllocError>
     requires { Ascends orders.old.items }
     ensures put { OnOk result (orders.new.items ≡ put loc.now write orders.old.items) }
     ensures kept { OnErr result (orders.new.items ≡ orders.old.items) }

@@ -10,5 +10,5 @@ returns-clause-place c =
     let l = c.args.loc.now in
     let d = begun l 0 in
     let point = IsPartitionPoint-from_clause (λ o. int_lt o.loc l) os _ c.partition_point.ensures.partitioned
-        (λ i j e k m t. below_too os l i j e c.requires k m t) (λ a r q k. search rules) in
+    (λ i j e k m t. below_too os l i j e c.requires k m t) (λ a r q k. search rules) in
     sym (place_is l os c.partition_point.result d c.partition_point.ensures.bound (λ k m. point.0 k d (omega arith) m) (λ m. point.1 _ d (omega arith) m))
