@@ -1,0 +1,106 @@
+-- What a machine keeps over a step.
+use Rattle.std.proofs.Common.{◌≡◌, ◌<◌, ◌≤◌, ◌+◌, ◌++◌, ℕ, zero, suc, Bool, true, false, ◌==◌, List, [], ◌∷◌, length, length-append, slice_get, Option, Some, None, ℤ, pos, refl, ap, sym, subst, ◌∙◌, arith}
+use Rattle.std.proofs.lemmas.Bool.Decides.{nat_tests}
+use Rattle.std.specs.Option.{IfSome}
+use Rattle.fsl_core.specs.declared.label.Label.{Label}
+use Rattle.fsl_core.specs.declared.need.Need.{Need}
+use Rattle.fsl_core.specs.declared.need.Reply.{Reply}
+use Rattle.fsl_core.specs.declared.program.Program.{Program}
+use Rattle.fsl_core.specs.Moves.{Config, need_of, moved, move_of, start_of}
+use Rattle.fsl_core.specs.Straight.{is_straight}
+use Rattle.fsl_graph.specs.Execution.{Runs, stands, events_of}
+use Rattle.fsl_graph.specs.Lone.{is_plain}
+use Rattle.fsl_moves.specs.declared.config.Config.{Config as Place}
+use Rattle.fsl_moves.specs.Configs.{config_of, Fits}
+use Rattle.fsl_machine.specs.declared.ends.Readiness.TheVariants as readiness
+use Rattle.fsl_machine.specs.Ends.{limit_of}
+use Rattle.fsl_machine.specs.Labels.{label_by}
+use Rattle.fsl_machine.specs.Machines.{IsRun}
+use Rattle.fsl_machine.specs.States.{State, grown, lone_graph, need_in, move_in, next_state}
+use Rattle.fsl_machine.specs.Steps.{readiness_of, refusal_of}
+use Rattle.fsl_machine.specs.Trace.{Trace, answer_of, recorded, event_of, IsNext}
+use Rattle.fsl_machine.proofs.Moves.{is_plain_move}
+use Rattle.fsl_machine.proofs.Runs.{is_shown, one_move}
+
+-- before the first move
+pub begins : (p : Program) (bound : ℕ) (c : Place) (t : Trace) → is_straight p ≡ true → Fits p c → config_of p c ≡ start_of p 0 []
+    → t ≡ record { events = []; mo = [] } → IsRun p bound c 0 t
+begins p bound c t straight fits starts is = rw is (record {
+  straight = straight;
+  fits = fits;
+  within = omega arith;
+  short = omega arith;
+  runs = subst (λ (q : Config). Runs p (lone_graph 0 (record { events = []; mo = [] })) (start_of p 0 []) 0 [] q) (sym starts) stands;
+})
+
+labels_plain : (t : Trace) (n : Need) (label : Option Label) → ((x : Label) → label ≡ Some x → is_plain x ≡ true) → IfSome label (λ x. is_plain x ≡ true)
+labels_plain t n None h = tt
+labels_plain t n (Some x) h = h x refl
+
+-- the label of the next move is plain
+pub shows_plain : (p : Program) (bound : ℕ) (c : Place) (m : ℕ) (t : Trace) (n : Need) (r : Reply) (label : Option Label) → IsRun p bound c m t
+    → readiness_of (config_of p c) ≡ readiness.Ready → n ≡ need_of p (config_of p c) → r ≡ answer_of t n → label ≡ label_by n r
+    → IfSome label (λ x. is_plain x ≡ true)
+shows_plain p bound c m t n r label run ready need_is reply_is label_is =
+    let move = is_plain_move t p c run.straight run.fits ready in
+    labels_plain t n label (λ x is. (is_shown t n x (rw need_is move.asks) (ap (label_by n) (sym reply_is) ∙ sym label_is ∙ is)).plain)
+
+grown_length : (label : Option Label) (t : Trace) (m : ℕ) → length t.events ≤ m → length (grown label t).events ≤ m + 1
+grown_length None t m h = omega arith
+grown_length (Some x) t m h = omega (arith, length-append t.events (event_of t x ∷ []))
+
+-- the label of the move is that of the answer
+pub label_made : (p : Program) (bound : ℕ) (c : Place) (m : ℕ) (t : Trace) (n : Need) → IsRun p bound c m t
+    → readiness_of (config_of p c) ≡ readiness.Ready → n ≡ need_of p (config_of p c)
+    → (moved p (config_of p c) (answer_of t n)).label ≡ label_by n (answer_of t n)
+label_made p bound c m t n run ready need_is =
+    let move = is_plain_move t p c run.straight run.fits ready in
+    subst (λ (q : Need). (moved p (config_of p c) (answer_of t q)).label ≡ label_by q (answer_of t q)) (sym need_is) move.shows
+
+pub steps_on : (p : Program) (bound : ℕ) (c d : Place) (m : ℕ) (t u : Trace) (n : Need) (r : Reply) (label : Option Label) → IsRun p bound c m t
+    → readiness_of (config_of p c) ≡ readiness.Ready → (m ≡ bound → ⊥) → n ≡ need_of p (config_of p c) → r ≡ answer_of t n → label ≡ label_by n r
+    → u ≡ grown label t → config_of p d ≡ (moved p (config_of p c) r).config → Fits p d → IsRun p bound d (m + 1) u
+steps_on p bound c d m t u n r label run ready more need_is reply_is label_is grows moves fits =
+    let move = is_plain_move t p c run.straight run.fits ready in
+    let within = run.within in
+    let label_of : label ≡ label_by n (answer_of t n) = label_is ∙ ap (label_by n) reply_is in
+    rw grows (record {
+      straight = run.straight;
+      fits = fits;
+      within = omega (arith, within, more);
+      short = grown_length label t m run.short;
+      runs = one_move p (start_of p 0 []) (config_of p c) (config_of p d) m t n label run.runs need_is (rw need_is move.asks) label_of
+          (label_made p bound c m t n run ready need_is ∙ sym label_of)
+          (sym (moves ∙ ap (λ (q : Reply). (moved p (config_of p c) q).config) reply_is));
+    })
+
+-- ---- the state
+
+abbrev state_of : (p : Program) (bound : ℕ) (c : Place) (m : ℕ) (t : Trace) → State
+state_of p bound c m t = record { program = p; bound = bound; config = config_of p c; graph = lone_graph m t }
+
+abbrev state_with : (p : Program) (bound : ℕ) → Config → (m : ℕ) → Trace → State
+state_with p bound k m t = record { program = p; bound = bound; config = k; graph = lone_graph (m + 1) t }
+
+not_spent : (m bound : ℕ) → (m ≡ bound → ⊥) → (m + 0 == bound) ≡ false
+not_spent m bound more = grind (arith, nat_tests)
+
+-- a move that is made, from the state s before it
+pub makes_next : (p : Program) (bound : ℕ) (c d : Place) (m : ℕ) (t u : Trace) (n : Need) (r : Reply) (label : Option Label) (s : State) → IsRun p bound c m t
+    → state_of p bound c m t ≡ s
+    → readiness_of (config_of p c) ≡ readiness.Ready → (m ≡ bound → ⊥) → n ≡ need_of p (config_of p c) → limit_of n (lone_graph m t) ≡ None
+    → r ≡ answer_of t n → label ≡ label_by n r → u ≡ grown label t → config_of p d ≡ (moved p (config_of p c) r).config
+    → (refusal_of s ≡ None) × (state_of p bound d (m + 1) u ≡ next_state s)
+makes_next p bound c d m t u n r label s run view ready more need_is free reply_is label_is grows moves =
+    let q = state_of p bound c m t in
+    let limit : limit_of (need_in q) (lone_graph m t) ≡ None = subst (λ (k : Need). limit_of k (lone_graph m t) ≡ None) need_is free in
+    let goes : refusal_of q ≡ None = rw (ready, not_spent m bound more, limit) refl in
+    let reply : r ≡ answer_of t (need_in q) = reply_is ∙ ap (answer_of t) need_is in
+    let config : config_of p d ≡ (move_in q).config = moves ∙ ap (λ (k : Reply). (moved p (config_of p c) k).config) reply in
+    let shown : label ≡ (move_in q).label =
+    label_is ∙ ap (label_by n) reply_is ∙ sym (label_made p bound c m t n run ready need_is)
+    ∙ ap (λ (k : Need). (moved p (config_of p c) (answer_of t k)).label) need_is in
+    let trace : u ≡ grown (move_in q).label t = grows ∙ ap (λ (k : Option Label). grown k t) shown in
+    let next : state_of p bound d (m + 1) u ≡ next_state q =
+    ap (λ (k : Config). state_with p bound k m u) config ∙ ap (λ (k : Trace). state_with p bound (move_in q).config m k) trace in
+    subst (λ (v : State). (refusal_of v ≡ None) × (state_of p bound d (m + 1) u ≡ next_state v)) view (goes, next)
