@@ -6,7 +6,7 @@ use Rattle.fsl_tree.specs.declared.declaration.Declaration.{Declaration}
 use Rattle.fsl_tree.specs.declared.declaration.Part.{Part}
 use Rattle.fsl_tree.specs.declared.declaration.Parameters.{Parameters}
 use Rattle.fsl_parse.specs.declared.groups.Header.{Header}
-use Rattle.fsl_parse.specs.declared.groups.Contract.{Contract}
+use Rattle.fsl_parse.specs.ReadDeclarations.{Contract}
 use Rattle.fsl_parse.specs.Heads.{is_next, is_more}
 use Rattle.fsl_parse.specs.ReadDeclarations.{read_bank_parameter, read_plain_parameter, read_parameter, read_next_parameter, read_parameters, read_optional_parameters, read_header, read_invariant, read_predicate, read_contract, read_procedure, read_declaration, read_file}
 use Rattle.fsl_tree.specs.Spelling.{parameter, next_parameter, optional_parameters, declaration}

@@ -14,7 +14,7 @@ use Rattle.fsl_parse.specs.declared.groups.Pair.{Pair}
 use Rattle.fsl_parse.specs.declared.groups.Triple.{Triple}
 use Rattle.fsl_parse.specs.declared.groups.Header.{Header}
 use Rattle.fsl_parse.specs.declared.groups.Arm.{Arm}
-use Rattle.fsl_parse.specs.declared.groups.Contract.{Contract}
+use Rattle.fsl_parse.specs.ReadDeclarations.{Contract}
 use Rattle.fsl_tree.specs.SpelledAssertions.{assertion}
 use Rattle.fsl_tree.specs.SpelledStatements.{optional_clause}
 

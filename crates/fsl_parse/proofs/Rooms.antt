@@ -5,13 +5,20 @@ use Rattle.fsl_token.specs.declared.kind.TokenKind.TheVariants as kind
 use Rattle.fsl_tree.specs.SpelledExpressions.{Tokens}
 use Rattle.fsl_tree.specs.declared.assertion.Atom.{Atom}
 use Rattle.fsl_tree.specs.declared.statement.Statement.{Statement}
+use Rattle.std.proofs.Common.{Option}
+use Rattle.fsl_tree.specs.declared.declaration.Clause.{Clause}
+use Rattle.fsl_tree.specs.declared.declaration.Declaration.{Declaration}
+use Rattle.fsl_tree.specs.declared.statement.Block.{Block}
+use Rattle.fsl_parse.specs.declared.groups.Contracted.{Contracted}
+use Rattle.fsl_parse.specs.declared.groups.Ensured.{Ensured}
 use Rattle.fsl_parse.specs.declared.fault.Fault.{Fault}
 use Rattle.fsl_base.specs.declared.span.Span.{Span}
 use Rattle.fsl_parse.specs.Heads.{is_next}
 use Rattle.fsl_parse.specs.Readers.{Outcome, Found, Wrong, Deep, Reader, ReadsAs, bind, take, open_at}
 use Rattle.fsl_parse.specs.ReadGroups.{read_test}
 use Rattle.fsl_parse.specs.ReadAssertions.{read_choice, read_raised, read_lowered, read_clause_of, read_named_or_related, read_atom_of, read_atom}
-use Rattle.fsl_parse.specs.ReadStatements.{read_if, read_while, read_guarded_while, read_optional_clause, read_simple_statement, read_statement_of, read_statement}
+use Rattle.fsl_parse.specs.ReadDeclarations.{Contract, read_header, read_procedure, read_contracted_procedure, read_declaration}
+use Rattle.fsl_parse.specs.ReadStatements.{read_if, read_while, read_guarded_while, read_optional_clause, read_block, read_simple_statement, read_statement_of, read_statement}
 
 shut_by : {A : Type 0} (c : Bool) (tokens : Tokens) (f g : Span → Reader A)
     → bind (if c then Deep tokens else Wrong tokens) f ≡ bind (if c then Deep tokens else Wrong tokens) g
@@ -135,3 +142,46 @@ is_while room tokens e f =
 pub is_simple : (room : ℕ) (tokens : Tokens) → is_next kind.If tokens ≡ false → is_next kind.While tokens ≡ false
     → read_statement room tokens ≡ read_simple_statement room tokens
 is_simple room tokens e f = statement_is room tokens ∙ rw (e, f) refl
+
+-- ---- procedures
+
+abbrev contract_of : Option Clause → Option Clause → Contract
+contract_of before after = record { requires_clause = before; ensures_clause = after }
+
+abbrev ensured_of : Option Clause → Block → Ensured
+ensured_of after body = record { ensures_clause = after; body = body }
+
+abbrev contracted_of : Option Clause → Ensured → Contracted
+contracted_of before e = record { requires_clause = before; ensures_clause = e.ensures_clause; body = e.body }
+
+last_clause : {D : Type 0} (before : Option Clause) (o : Outcome (Option Clause)) (third : Reader Block)
+    (next : Option Clause → Option Clause → Block → Reader D)
+    → bind (bind o (λ b left. Found (contract_of before b) left)) (λ c left. bind (third left) (λ body left. next c.requires_clause c.ensures_clause body left))
+        ≡ bind (bind (bind o (λ b left. bind (third left) (λ body left. Found (ensured_of b body) left)))
+            (λ e left. Found (contracted_of before e) left)) (λ c left. next c.requires_clause c.ensures_clause c.body left)
+last_clause before (Found b left) third next =
+    last_part (third left) (ensured_of b) (λ e left. next before e.ensures_clause e.body left)
+    ∙ last_part (bind (third left) (λ body left. Found (ensured_of b body) left)) (contracted_of before)
+        (λ c left. next c.requires_clause c.ensures_clause c.body left)
+last_clause before (Wrong left) third next = refl
+last_clause before (Deep left) third next = refl
+
+clauses : {D : Type 0} (o : Outcome (Option Clause)) (second : Reader (Option Clause)) (third : Reader Block)
+    (next : Option Clause → Option Clause → Block → Reader D)
+    → bind (bind o (λ a left. bind (second left) (λ b left. Found (contract_of a b) left)))
+            (λ c left. bind (third left) (λ body left. next c.requires_clause c.ensures_clause body left))
+        ≡ bind (bind o (λ a left. bind (bind (second left) (λ b left. bind (third left) (λ body left. Found (ensured_of b body) left)))
+            (λ e left. Found (contracted_of a e) left))) (λ c left. next c.requires_clause c.ensures_clause c.body left)
+clauses (Found a left) second third next = last_clause a (second left) third next
+clauses (Wrong left) second third next = refl
+clauses (Deep left) second third next = refl
+
+procedure_contracted : (room : ℕ) (tokens : Tokens) → read_procedure room tokens ≡ read_contracted_procedure room tokens
+procedure_contracted room tokens =
+    same_after (read_header kind.Proc room tokens) _ _ (λ h left.
+    clauses (read_optional_clause kind.Requires room left) (read_optional_clause kind.Ensures room) (read_block room) _)
+
+pub is_procedure : (room : ℕ) (tokens : Tokens) → is_next kind.Inv tokens ≡ false → is_next kind.Pred tokens ≡ false
+    → read_declaration room tokens ≡ read_contracted_procedure room tokens
+is_procedure room tokens e f =
+    let one : read_declaration room tokens ≡ read_procedure room tokens = rw (e, f) refl in one ∙ procedure_contracted room tokens

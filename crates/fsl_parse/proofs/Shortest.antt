@@ -1,7 +1,7 @@
 -- A shortest tree of each kind.
 use Rattle.std.proofs.Common.{[], None}
 use Rattle.fsl_parse.specs.declared.groups.Arm.{Arm}
-use Rattle.fsl_parse.specs.declared.groups.Contract.{Contract}
+use Rattle.fsl_parse.specs.ReadDeclarations.{Contract}
 use Rattle.fsl_parse.specs.declared.groups.Enclosed.{Enclosed}
 use Rattle.fsl_parse.specs.declared.groups.ExcludedSet.{ExcludedSet}
 use Rattle.fsl_parse.specs.declared.groups.Held.{Held}

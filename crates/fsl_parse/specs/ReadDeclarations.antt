@@ -11,7 +11,9 @@ use Rattle.fsl_tree.specs.declared.declaration.NextParameter.{NextParameter}
 use Rattle.fsl_tree.specs.declared.declaration.Parameter.{Parameter}
 use Rattle.fsl_tree.specs.declared.file.File.{File}
 use Rattle.fsl_parse.specs.declared.groups.Header.{Header}
-use Rattle.fsl_parse.specs.declared.groups.Contract.{Contract}
+use Rattle.fsl_parse.specs.declared.groups.Contracted.{Contracted}
+use Rattle.fsl_parse.specs.declared.groups.Ensured.{Ensured}
+use Rattle.fsl_tree.specs.declared.declaration.Clause.{Clause}
 use Rattle.fsl_parse.specs.Heads.{is_next, is_more}
 use Rattle.fsl_parse.specs.Readers.{Outcome, Found, Reader, bind, take, open_at, many_of}
 use Rattle.fsl_parse.specs.ReadAssertions.{read_part}
@@ -74,6 +76,11 @@ read_predicate room tokens =
       body = body;
     })) left))
 
+-- the two clauses of a procedure
+pub record Contract : Type 0 where
+  pub requires_clause : Option Clause
+  pub ensures_clause : Option Clause
+
 abbrev pub read_contract : ℕ → Reader Contract
 read_contract room tokens =
     bind (read_optional_clause kind.Requires room tokens) (λ before left. bind (read_optional_clause kind.Ensures room left) (λ after left.
@@ -92,6 +99,31 @@ read_procedure room tokens =
       ensures_clause = c.ensures_clause;
       body = body;
     })) left)))
+
+-- the same with the clauses and the body together
+abbrev pub read_ensured : ℕ → Reader Ensured
+read_ensured room tokens =
+    bind (read_optional_clause kind.Ensures room tokens) (λ after left. bind (read_block room left) (λ body left.
+    Found (record { ensures_clause = after; body = body }) left))
+
+abbrev pub read_contracted : ℕ → Reader Contracted
+read_contracted room tokens =
+    bind (read_optional_clause kind.Requires room tokens) (λ before left. bind (read_ensured room left) (λ e left.
+    Found (record { requires_clause = before; ensures_clause = e.ensures_clause; body = e.body }) left))
+
+abbrev pub read_contracted_procedure : ℕ → Reader Declaration
+read_contracted_procedure room tokens =
+    bind (read_header kind.Proc room tokens) (λ h left. bind (read_contracted room left) (λ c left.
+    Found (declarations.Procedure (record {
+      word = h.word;
+      name = h.name;
+      «open» = h.open;
+      parameters = h.parameters;
+      close = h.close;
+      requires_clause = c.requires_clause;
+      ensures_clause = c.ensures_clause;
+      body = c.body;
+    })) left))
 
 abbrev pub read_declaration : ℕ → Reader Declaration
 read_declaration room tokens =

@@ -4,11 +4,11 @@ ghost use Rattle.fsl_parse.specs.Readers.{ReadsAs, many_of};
 ghost use Rattle.fsl_parse.specs.Heads.{is_next};
 ghost use Rattle.fsl_parse.specs.ReadAssertions.{read_part};
 ghost use Rattle.fsl_parse.specs.ReadStatements.{read_optional_clause};
-ghost use Rattle.fsl_parse.specs.ReadDeclarations.{read_contract, read_declaration, read_header, read_invariant, read_next_parameter, read_optional_parameters, read_parameter, read_parameters, read_predicate, read_procedure};
+ghost use Rattle.fsl_parse.specs.ReadDeclarations.{read_contracted, read_contracted_procedure, read_declaration, read_ensured, read_header, read_invariant, read_next_parameter, read_optional_parameters, read_parameter, read_parameters, read_predicate};
 ghost use Rattle.fsl_token.specs.declared.kind.TokenKind.TheVariants.{Comma, Ensures, OpenBrace, Requires};
 
 use crate::fault::Fault;
-use crate::groups::{Contract, Header};
+use crate::groups::{Contracted, Ensured, Header};
 use crate::parser::Parser;
 use fsl_base::List;
 use fsl_token::TokenKind;
@@ -105,7 +105,7 @@ impl<'a> Parser<'a> {
     /// `"proc" NAME "(" [ parameters ] ")" [ "requires" "(" assertion ")" ] [ "ensures" "(" assertion ")" ] block`
     fn procedure(&mut self, alloc: Global, room: u32) -> Result<Declaration, Fault>
         ensures shorter { OnOk result (length self.new.rest.now < length self.old.rest.now) }
-        ensures agrees { ReadsAs result self.new.rest.now (read_procedure room) self.old.rest.now }
+        ensures agrees { ReadsAs result self.new.rest.now (read_contracted_procedure room) self.old.rest.now }
     {
         let Header {
             word,
@@ -114,11 +114,11 @@ impl<'a> Parser<'a> {
             parameters,
             close,
         } = self.header(alloc, TokenKind::Proc, room)?;
-        let Contract {
+        let Contracted {
             requires_clause,
             ensures_clause,
-        } = self.contract(alloc, room)?;
-        let body = self.block(alloc, room)?;
+            body,
+        } = self.contracted(alloc, room)?;
         Ok(Declaration::Procedure {
             procedure: Procedure {
                 word,
@@ -133,16 +133,33 @@ impl<'a> Parser<'a> {
         })
     }
 
-    /// `[ "requires" "(" assertion ")" ] [ "ensures" "(" assertion ")" ]`
-    fn contract(&mut self, alloc: Global, room: u32) -> Result<Contract, Fault>
-        ensures shorter { OnOk result (length self.new.rest.now ≤ length self.old.rest.now) }
-        ensures agrees { ReadsAs result self.new.rest.now (read_contract room) self.old.rest.now }
+    /// `[ "requires" "(" assertion ")" ] [ "ensures" "(" assertion ")" ] block`
+    fn contracted(&mut self, alloc: Global, room: u32) -> Result<Contracted, Fault>
+        ensures shorter { OnOk result (length self.new.rest.now < length self.old.rest.now) }
+        ensures agrees { ReadsAs result self.new.rest.now (read_contracted room) self.old.rest.now }
     {
         let requires_clause = self.requires_clause(alloc, room)?;
-        let ensures_clause = self.ensures_clause(alloc, room)?;
-        Ok(Contract {
+        let Ensured {
+            ensures_clause,
+            body,
+        } = self.ensured(alloc, room)?;
+        Ok(Contracted {
             requires_clause,
             ensures_clause,
+            body,
+        })
+    }
+
+    /// `[ "ensures" "(" assertion ")" ] block`
+    fn ensured(&mut self, alloc: Global, room: u32) -> Result<Ensured, Fault>
+        ensures shorter { OnOk result (length self.new.rest.now < length self.old.rest.now) }
+        ensures agrees { ReadsAs result self.new.rest.now (read_ensured room) self.old.rest.now }
+    {
+        let ensures_clause = self.ensures_clause(alloc, room)?;
+        let body = self.block(alloc, room)?;
+        Ok(Ensured {
+            ensures_clause,
+            body,
         })
     }
 

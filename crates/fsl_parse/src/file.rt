@@ -13,6 +13,7 @@ use std::alloc::Global;
 
 impl<'a> Parser<'a> {
     /// `{ declaration }`, up to the end of the tokens
+    #[tactic(auto, unfolding(crate::specs::ReadDeclarations::read_file))]
     pub fn file(&mut self, alloc: Global, room: u32) -> Result<File, Fault>
         ensures agrees { ReadsAs result self.new.rest.now (read_file room) self.old.rest.now }
     {

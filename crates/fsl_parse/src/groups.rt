@@ -84,11 +84,19 @@ pub struct Arm {
     pub close: Span,
 }
 
-/// `[ "requires" "(" assertion ")" ] [ "ensures" "(" assertion ")" ]`
+/// `[ "ensures" "(" assertion ")" ] block`
 #[derive(Drop)]
-pub struct Contract {
+pub struct Ensured {
+    pub ensures_clause: Option<Clause>,
+    pub body: Block,
+}
+
+/// `[ "requires" "(" assertion ")" ] [ "ensures" "(" assertion ")" ] block`
+#[derive(Drop)]
+pub struct Contracted {
     pub requires_clause: Option<Clause>,
     pub ensures_clause: Option<Clause>,
+    pub body: Block,
 }
 
 /// `[ "inv" "(" assertion ")" ] block`

@@ -39,7 +39,7 @@ const MOST_NESTING: u32 = 64;
 /// A refusal has the place of the first token that is unexpected or nests too deeply. A token is unexpected where no
 /// tree's tokens begin with those up to it; where the tokens end too soon, the place is from `end` to `end`. A token
 /// nests too deeply where more than 64 brackets and unary signs are open.
-#[tactic(auto, using(crate::proofs::Refusal::spelled, crate::proofs::Refusal::nested, crate::proofs::Refusal::refused, crate::proofs::Place::stands, crate::proofs::WholeDeclarations::one_spelling))]
+#[tactic(auto, using(crate::proofs::Refusal::spelled, crate::proofs::Refusal::nested, crate::proofs::Refusal::refused, crate::proofs::Place::stands, crate::proofs::Place::alone))]
 pub fn parse(alloc: Global, tokens: &List<Token>, end: u32) -> Result<File, ParseFault>
     ensures found { IfOk result (λ file. spelling file ≡ tokens.now) }
     ensures within { IfOk result (λ file. nesting file ≤ 64) }
