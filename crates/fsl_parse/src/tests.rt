@@ -16,6 +16,11 @@ enum Outcome {
     Untried,
 }
 
+/// The bytes of a text of a test, which has at most 5000.
+fn length(text: &str) -> u32 {
+    text.len().min(5000) as u32
+}
+
 fn tokens_of(alloc: Global, text: &str) -> Option<List<Token>> {
     let bytes = text.as_bytes();
     if bytes.len() > 5000 {
@@ -24,11 +29,11 @@ fn tokens_of(alloc: Global, text: &str) -> Option<List<Token>> {
     lex(alloc, bytes).ok()
 }
 
-fn outcome(alloc: Global, text: &str) -> Outcome {
+fn reading(alloc: Global, text: &str) -> Outcome {
     let Some(tokens) = tokens_of(alloc, text) else {
         return Outcome::Untried;
     };
-    match parse(alloc, &tokens, text.len() as u32) {
+    match parse(alloc, &tokens, length(text)) {
         Ok(_) => Outcome::Read,
         Err(ParseFault::Unexpected { place }) => Outcome::Unexpected(place.from),
         Err(ParseFault::Deep { place }) => Outcome::Deep(place.from),
@@ -37,9 +42,9 @@ fn outcome(alloc: Global, text: &str) -> Outcome {
 }
 
 /// What the two parts of a text are read as together, and the byte at which the second begins.
-fn outcome_at(alloc: Global, before: &str, after: &str) -> (Outcome, u32) {
+fn reading_at(alloc: Global, before: &str, after: &str) -> (Outcome, u32) {
     match format!(in alloc; "{before}{after}") {
-        Ok(text) => (outcome(alloc, text.as_str()), before.len() as u32),
+        Ok(text) => (reading(alloc, text.as_str()), length(before)),
         Err(_) => (Outcome::Untried, 0),
     }
 }
@@ -54,7 +59,7 @@ fn files(rt: HostRuntime) {
         "inv Flag(d, bank g) of v { if (v == 0) { emp } else { d |-> 7 } } { up(emp) &*& down(P(v)) }",
         "pred Ready(d) { d |->[2 * d - -1] ?x &*& x |-> _ &*& x |-> 3 }",
         "pred Held(a, g) { Init(a) &*& Rel(a, F(a)) &*& RmwAcq(a, F()) &*& Acq(a, F(a, 1), 0, {0, 1}) &*& Tok(g, 1) &*& Auth(g, 2) }",
-        "pred Least(a) { Acq(a, F(), 18446744073709551615, {}) &*& a >= 1 &*& -a <= (1) &*& result != 2 }",
+        "pred Least(a) { Acq(a, F(), 9223372036854775807, {}) &*& a >= 1 &*& -a <= (1) &*& result != 2 }",
         "proc f(a) { let x = a; x = call f(1, 2); let b = alloc na; let c = alloc acq F(b); let d = alloc rmw F(); }",
         "proc f(a) { let x = load acq(a); store rlx(a, x + 1); x = cas acqrel rlx(a, 0, 1) with { mint(g, 1); burn(g, 1); }; }",
         "proc f(a) { let x = fetch_add rel(a, 1); x = exchange acq(a, 1) with { }; call f(x); par { f(1); f(2); } free(a); }",
@@ -63,7 +68,7 @@ fn files(rt: HostRuntime) {
         "proc f(a) { if (a > 1) { par { } } while (a >= 1) { } return a + 2 - 3 * 4 * -(5 - a); }",
     ];
     for text in rows {
-        assert_eq!(rt; outcome(rt.alloc(), text), Outcome::Read, "{text}");
+        assert_eq!(rt; reading(rt.alloc(), text), Outcome::Read, "{text}");
     }
 }
 
@@ -94,7 +99,7 @@ fn faults_of_declarations(rt: HostRuntime) {
         ("pred P() ", "of v { emp }"),
     ];
     for (before, after) in rows {
-        let (found, place) = outcome_at(rt.alloc(), before, after);
+        let (found, place) = reading_at(rt.alloc(), before, after);
         assert_eq!(rt; found, Outcome::Unexpected(place), "{before}{after}");
     }
 }
@@ -112,7 +117,7 @@ fn faults_of_assertions(rt: HostRuntime) {
         ("pred P() { emp &*& ", "_ }"),
         ("pred P() { if (true) { emp } ", "}"),
         ("pred P() { if (true) { emp } else ", "emp }"),
-        ("pred P() { if (x) ", "{ emp } else { emp } }"),
+        ("pred P() { if (x", ") { emp } else { emp } }"),
         ("pred P() { Init(", ") }"),
         ("pred P() { Rel(a, F", ") }"),
         ("pred P() { RmwAcq(a", ") }"),
@@ -125,7 +130,7 @@ fn faults_of_assertions(rt: HostRuntime) {
         ("pred P() { down(emp ", "}"),
     ];
     for (before, after) in rows {
-        let (found, place) = outcome_at(rt.alloc(), before, after);
+        let (found, place) = reading_at(rt.alloc(), before, after);
         assert_eq!(rt; found, Outcome::Unexpected(place), "{before}{after}");
     }
 }
@@ -160,7 +165,7 @@ fn faults_of_right_sides(rt: HostRuntime) {
         ("proc main() { let x = alloc rmw ", "; }"),
     ];
     for (before, after) in rows {
-        let (found, place) = outcome_at(rt.alloc(), before, after);
+        let (found, place) = reading_at(rt.alloc(), before, after);
         assert_eq!(rt; found, Outcome::Unexpected(place), "{before}{after}");
     }
 }
@@ -195,7 +200,7 @@ fn faults_of_statements(rt: HostRuntime) {
         ("proc main() { return 1 ", "return; }"),
     ];
     for (before, after) in rows {
-        let (found, place) = outcome_at(rt.alloc(), before, after);
+        let (found, place) = reading_at(rt.alloc(), before, after);
         assert_eq!(rt; found, Outcome::Unexpected(place), "{before}{after}");
     }
 }
@@ -234,7 +239,7 @@ fn programs_are_read_whole(rt: HostRuntime) {
         "inv Counter(bank g) of n { Auth(g, n) &*& n >= 0 }\n",
     ];
     for text in rows {
-        assert_eq!(rt; outcome(rt.alloc(), text), Outcome::Read, "{text}");
+        assert_eq!(rt; reading(rt.alloc(), text), Outcome::Read, "{text}");
         assert!(rt; ends_too_soon(rt.alloc(), text), "{text}");
     }
 }
@@ -258,7 +263,7 @@ fn text_of(alloc: Global, nest: &Nest) -> Result<(String, u32), AllocError> {
         text.push_str(nest.open)?;
     }
     text.push_str(nest.inner)?;
-    let place = text.len() as u32;
+    let place = length(text.as_str());
     text.push_str(nest.last)?;
     for _ in 0..nest.levels {
         text.push_str(nest.close)?;
@@ -270,7 +275,7 @@ fn text_of(alloc: Global, nest: &Nest) -> Result<(String, u32), AllocError> {
 /// What the text is read as, and the byte at which `last` begins in it.
 fn nested(alloc: Global, nest: &Nest) -> (Outcome, u32) {
     match text_of(alloc, nest) {
-        Ok((text, place)) => (outcome(alloc, text.as_str()), place),
+        Ok((text, place)) => (reading(alloc, text.as_str()), place),
         Err(_) => (Outcome::Untried, 0),
     }
 }
