@@ -157,21 +157,21 @@ contracted_of before e = record { requires_clause = before; ensures_clause = e.e
 last_clause : {D : Type 0} (before : Option Clause) (o : Outcome (Option Clause)) (third : Reader Block)
     (next : Option Clause → Option Clause → Block → Reader D)
     → bind (bind o (λ b left. Found (contract_of before b) left)) (λ c left. bind (third left) (λ body left. next c.requires_clause c.ensures_clause body left))
-        ≡ bind (bind (bind o (λ b left. bind (third left) (λ body left. Found (ensured_of b body) left)))
-            (λ e left. Found (contracted_of before e) left)) (λ c left. next c.requires_clause c.ensures_clause c.body left)
+    ≡ bind (bind (bind o (λ b left. bind (third left) (λ body left. Found (ensured_of b body) left)))
+    (λ e left. Found (contracted_of before e) left)) (λ c left. next c.requires_clause c.ensures_clause c.body left)
 last_clause before (Found b left) third next =
     last_part (third left) (ensured_of b) (λ e left. next before e.ensures_clause e.body left)
     ∙ last_part (bind (third left) (λ body left. Found (ensured_of b body) left)) (contracted_of before)
-        (λ c left. next c.requires_clause c.ensures_clause c.body left)
+    (λ c left. next c.requires_clause c.ensures_clause c.body left)
 last_clause before (Wrong left) third next = refl
 last_clause before (Deep left) third next = refl
 
 clauses : {D : Type 0} (o : Outcome (Option Clause)) (second : Reader (Option Clause)) (third : Reader Block)
     (next : Option Clause → Option Clause → Block → Reader D)
     → bind (bind o (λ a left. bind (second left) (λ b left. Found (contract_of a b) left)))
-            (λ c left. bind (third left) (λ body left. next c.requires_clause c.ensures_clause body left))
-        ≡ bind (bind o (λ a left. bind (bind (second left) (λ b left. bind (third left) (λ body left. Found (ensured_of b body) left)))
-            (λ e left. Found (contracted_of a e) left))) (λ c left. next c.requires_clause c.ensures_clause c.body left)
+    (λ c left. bind (third left) (λ body left. next c.requires_clause c.ensures_clause body left))
+    ≡ bind (bind o (λ a left. bind (bind (second left) (λ b left. bind (third left) (λ body left. Found (ensured_of b body) left)))
+    (λ e left. Found (contracted_of a e) left))) (λ c left. next c.requires_clause c.ensures_clause c.body left)
 clauses (Found a left) second third next = last_clause a (second left) third next
 clauses (Wrong left) second third next = refl
 clauses (Deep left) second third next = refl

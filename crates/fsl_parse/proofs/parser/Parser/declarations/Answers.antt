@@ -7,7 +7,7 @@ use Rattle.fsl_parse.proofs.parser.Parser.declarations.Goals as goal
 pub returns-in_err-declaration : goal.returns-in_err-declaration
 returns-in_err-declaration c = record {
   agrees = going_failed is_more (read_declaration c.args.room) _ _ _ _ _ _ c.from_residual.ensures.1 c.declarations.invariant.going
-    (sym c.is_more.ensures ∙ c.declarations-test.true) refl c.in_err-declaration.ensures.agrees;
+      (sym c.is_more.ensures ∙ c.declarations-test.true) refl c.in_err-declaration.ensures.agrees;
 }
 
 pub returns : goal.returns
