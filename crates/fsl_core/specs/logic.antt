@@ -1,0 +1,16 @@
+pub mod States
+pub mod Terms
+pub mod Deciding
+pub mod Chunks
+pub mod Producing
+pub mod Consuming
+pub mod Locations
+pub mod Accesses
+pub mod Tokens
+pub mod Fences
+pub mod Messages
+pub mod Updates
+pub mod Calls
+pub mod Slots
+pub mod Paths
+pub mod Verdicts
