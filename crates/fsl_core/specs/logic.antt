@@ -4,11 +4,12 @@ pub mod Deciding
 pub mod Chunks
 pub mod Producing
 pub mod Consuming
+pub mod Messages
+pub mod Assertions
 pub mod Locations
 pub mod Accesses
 pub mod Tokens
 pub mod Fences
-pub mod Messages
 pub mod Updates
 pub mod Calls
 pub mod Slots

@@ -1,24 +1,19 @@
 -- The rules of allocations, loads, stores and frees.
 use Rattle.std.specs.Prelude.{ℕ, ◌+◌, Bool, true, false, ◌&&◌, List, [], ◌∷◌, ◌++◌, Option, Some, None, pos, slice_set, slice_get, if◌then◌else◌}
-use Rattle.fsl_core.specs.declared.assertion.Asrt.{Asrt}
-use Rattle.fsl_core.specs.declared.assertion.Inst.{Inst}
 use Rattle.fsl_core.specs.declared.chunk.Chunk.{Chunk}
 use Rattle.fsl_core.specs.declared.chunk.Chunk.TheVariants as chunk
-use Rattle.fsl_core.specs.declared.expr.Expr.{Expr}
 use Rattle.fsl_core.specs.declared.mode.Mode.{Mode}
 use Rattle.fsl_core.specs.declared.mode.Mode.TheVariants as mode
 use Rattle.fsl_core.specs.declared.mode.Rung.{Rung}
 use Rattle.fsl_core.specs.declared.mode.Rung.TheVariants.{Plain, Up, Down}
-use Rattle.fsl_core.specs.declared.program.Program.{Program}
 use Rattle.fsl_core.specs.declared.verdict.Kind.TheVariants as kind
-use Rattle.fsl_core.specs.declared.verdict.Mood.TheVariants as mood
 use Rattle.fsl_core.specs.logic.States.{Rule, Action, ◌>>=◌, ◌>>◌, give, done, look, change, demand_some, new_symbol, here, set}
-use Rattle.fsl_core.specs.logic.Terms.{term, terms}
+use Rattle.fsl_core.specs.logic.Terms.{Expression, term, terms}
 use Rattle.fsl_core.specs.logic.Deciding.{proves_equal, assume_at_most, decide_equal, each_side}
 use Rattle.fsl_core.specs.logic.Chunks.{Found, find_or, put, take, add, Cell, Leave, leave, Permission, cell_at, init_at, rel_at}
-use Rattle.fsl_core.specs.logic.Producing.{full, chosen, produce, produce_init}
-use Rattle.fsl_core.specs.logic.Consuming.{consume, demand_equal}
-use Rattle.fsl_core.specs.logic.Locations.{Piece, parts_at, part_at, each_part, only_part}
+use Rattle.fsl_core.specs.logic.Producing.{full, chosen, Instance, produce_init}
+use Rattle.fsl_core.specs.logic.Consuming.{demand_equal}
+use Rattle.fsl_core.specs.logic.Locations.{Setting, Piece, parts_at, part_at, consume_parts, produce_part}
 use Rattle.fsl_lin.specs.Combination.{Combination, constant}
 use Rattle.fsl_lin.specs.declared.fact.Fact.{Fact}
 
@@ -65,11 +60,11 @@ add_permissions l part (x ∷ xs) = do
   add_permissions l (part + 1) xs
 
 -- what may be done with a new location, for read-modify-writes or for loads
-abbrev pub add_leave : Program → Bool → Leave → Action
+abbrev pub add_leave : Setting → Bool → Leave → Action
 add_leave p true l = add (chunk.RmwAcq l.at l.inv l.args)
 add_leave p false l = add_permissions l 0 (parts_at p l l.at)
 
-abbrev pub alloc_at : Program → ℕ → Bool → Inst → Action
+abbrev pub alloc_at : Setting → ℕ → Bool → Instance → Action
 alloc_at p slot rmw inst = do
   env ← here
   args ← terms inst.args env
@@ -80,7 +75,7 @@ alloc_at p slot rmw inst = do
 
 -- ---- loads
 
-abbrev pub load_na : ℕ → Expr → Action
+abbrev pub load_na : ℕ → Expression → Action
 load_na slot at = do
   env ← here
   a ← term at env
@@ -113,13 +108,13 @@ is_excluded v (x ∷ xs) = do
   chosen (give true) (is_excluded v xs) same
 
 -- the value is excluded from now on, and its part of the invariant is gained
-abbrev pub gain : Program → Rung → Combination → Placed → Bool → Action
+abbrev pub gain : Setting → Rung → Combination → Placed → Bool → Action
 gain p rung v x true = done
 gain p rung v x false = do
   change (λ s. record s { chunks = slice_set s.chunks x.place (chunk.Acq x.is.leave.at x.is.leave.inv x.is.leave.args x.is.part (x.is.out ++ v ∷ [])) })
-  only_part (λ a env. produce a rung env) (part_at p x.is.leave x.is.part v)
+  produce_part rung (part_at p x.is.leave x.is.part v)
 
-abbrev pub gain_each : Program → Rung → Combination → List Placed → Action
+abbrev pub gain_each : Setting → Rung → Combination → List Placed → Action
 gain_each p rung v [] = done
 gain_each p rung v (x ∷ xs) = do
   excluded ← is_excluded v x.is.out
@@ -127,7 +122,7 @@ gain_each p rung v (x ∷ xs) = do
   gain_each p rung v xs
 
 -- an atomic load; the permissions are those of the location before it
-abbrev pub load_atomic : Program → ℕ → Mode → Expr → Action
+abbrev pub load_atomic : Setting → ℕ → Mode → Expression → Action
 load_atomic p slot m at = do
   env ← here
   a ← term at env
@@ -137,7 +132,7 @@ load_atomic p slot m at = do
   gain_each p (gaining m) v xs
   set slot v
 
-abbrev pub load : Program → ℕ → Mode → Expr → Action
+abbrev pub load : Setting → ℕ → Mode → Expression → Action
 load p slot mode.Na at = load_na slot at
 load p slot m at = load_atomic p slot m at
 
@@ -150,7 +145,7 @@ whole_cell a = do
   demand_equal kind.Share f.is.share full
   give f
 
-abbrev pub store_na : Expr → Expr → Action
+abbrev pub store_na : Expression → Expression → Action
 store_na at e = do
   env ← here
   a ← term at env
@@ -159,20 +154,20 @@ store_na at e = do
   put f (chunk.Points Plain f.is.at f.is.share (Some v))
 
 -- an atomic store gives all parts of the invariant away
-abbrev pub store_atomic : Program → Mode → Expr → Expr → Action
+abbrev pub store_atomic : Setting → Mode → Expression → Expression → Action
 store_atomic p m at e = do
   env ← here
   a ← term at env
   v ← term e env
   f ← find_or kind.Rel (rel_at a)
-  each_part (λ x xs. consume x mood.Cond (giving m) xs) (parts_at p f.is v)
+  consume_parts (giving m) (parts_at p f.is v)
   produce_init Plain a
 
-abbrev pub store : Program → Mode → Expr → Expr → Action
+abbrev pub store : Setting → Mode → Expression → Expression → Action
 store p mode.Na at e = store_na at e
 store p m at e = store_atomic p m at e
 
-abbrev pub free : Expr → Action
+abbrev pub free : Expression → Action
 free at = do
   env ← here
   a ← term at env

@@ -1,23 +1,19 @@
 -- Consuming an assertion at a rung: what it says has to be proved, and what it owns is taken out of the chunks.
 use Rattle.std.specs.Prelude.{ℕ, ◌==◌, Bool, true, false, ◌&&◌, List, [], ◌∷◌, Option, Some, None, pos, if◌then◌else◌, slice_set}
 use Rattle.std.specs.List.{list_all, list_any}
-use Rattle.fsl_core.specs.declared.assertion.Asrt.{Asrt}
-use Rattle.fsl_core.specs.declared.assertion.Asrt.TheOpen.{Asrt-F}
-use Rattle.fsl_core.specs.declared.assertion.Asrt.TheFolds.{fold-Asrt}
 use Rattle.fsl_core.specs.declared.chunk.Chunk.{Chunk}
 use Rattle.fsl_core.specs.declared.chunk.Chunk.TheVariants as chunk
 use Rattle.fsl_core.specs.declared.mode.Rung.{Rung}
-use Rattle.fsl_core.specs.declared.mode.Rung.TheVariants.{Up, Down}
 use Rattle.fsl_core.specs.declared.verdict.Kind.{Kind}
 use Rattle.fsl_core.specs.declared.verdict.Kind.TheVariants as kind
 use Rattle.fsl_core.specs.declared.verdict.Mood.{Mood}
 use Rattle.fsl_core.specs.declared.verdict.Mood.TheVariants as mood
 use Rattle.fsl_core.specs.States.{Env}
 use Rattle.fsl_core.specs.logic.States.{Rule, Action, ◌>>=◌, ◌>>◌, give, done, fail, either, look, demand, demand_some}
-use Rattle.fsl_core.specs.logic.Terms.{term, terms, fitting}
-use Rattle.fsl_core.specs.logic.Deciding.{proves_at_most, proves_equal, assume_at_most, decided, demand_cond}
+use Rattle.fsl_core.specs.logic.Terms.{Expression, term, terms, fitting}
+use Rattle.fsl_core.specs.logic.Deciding.{Condition, proves_at_most, proves_equal, assume_at_most, decided, demand_cond}
 use Rattle.fsl_core.specs.logic.Chunks.{Found, Reading, when, find, find_or, put, take, Cell, Leave, leave, Permission, same_leave, cell_at, enough_at, init_at, rel_of, rmw_of, tokens_of, authority_of}
-use Rattle.fsl_core.specs.logic.Producing.{nought, Wanted, any, bind, equals, wanted, bank_of, chosen}
+use Rattle.fsl_core.specs.logic.Producing.{nought, Wanted, any, bind, equals, Pattern, wanted, Instance, leave_terms, bank_of, chosen}
 use Rattle.fsl_lin.specs.Combination.{Combination, minus, constant}
 use Rattle.fsl_lin.specs.declared.fact.Fact.{Fact}
 
@@ -67,7 +63,7 @@ abbrev pub find_cell : Rung → Combination → Combination → Rule (Found Chun
 find_cell rung at k = find (enough_at rung at k) >>= enough_or rung at
 
 -- a value is held against a pattern, and a binder is set to it
-abbrev pub match_value : Wanted → Option Combination → Env → Rule Env
+abbrev pub match_value : Wanted Combination → Option Combination → Env → Rule Env
 match_value any value env = give env
 match_value (bind slot) value env = do
   v ← demand_some kind.Uninit value
@@ -81,7 +77,7 @@ match_value (equals t) value env = do
 abbrev pub demand_share : Combination → Action
 demand_share share = demand_at_most kind.Share (constant (pos 1)) share
 
-abbrev pub consume_cell : Rung → Combination → Combination → Wanted → Env → Rule Env
+abbrev pub consume_cell : Rung → Combination → Combination → Wanted Combination → Env → Rule Env
 consume_cell rung at k w env = do
   demand_share k
   f ← find_cell rung at k
@@ -129,57 +125,66 @@ failing mood.Cond = kind.Cond
 abbrev pub Consume : Type 0
 Consume = Mood → Rung → Env → Rule Env
 
-abbrev pub consume_all : List Consume → Consume
-consume_all [] mood rung env = give env
-consume_all (c ∷ cs) mood rung env = do
-  e ← c mood rung env
-  consume_all cs mood rung e
+abbrev pub emp_consumed : Consume
+emp_consumed mood rung env = give env
 
-abbrev pub consume_step : Asrt-F Consume → Consume
-consume_step Asrt-F.Emp mood rung env = give env
-consume_step (Asrt-F.Fact cond) mood rung env = do
+abbrev pub fact_consumed : Condition → Consume
+fact_consumed cond mood rung env = do
   demand_cond (failing mood) cond env
   give env
-consume_step (Asrt-F.Points at share pat) mood rung env = do
+
+abbrev pub points_consumed : Expression → Expression → Pattern → Consume
+points_consumed at share pat mood rung env = do
   a ← term at env
   k ← term share env
   w ← wanted pat env
   consume_cell rung a k w env
-consume_step (Asrt-F.Init at) mood rung env = do
+
+abbrev pub init_consumed : Expression → Consume
+init_consumed at mood rung env = do
   a ← term at env
   find_or kind.Init (init_at rung a)
   give env
-consume_step (Asrt-F.Rel at inst) mood rung env = do
-  a ← term at env
-  args ← terms inst.args env
-  find_or kind.Rel (rel_of (leave a inst.inv args))
+
+abbrev pub rel_consumed : Expression → Instance → Consume
+rel_consumed at inst mood rung env = do
+  l ← leave_terms at inst env
+  find_or kind.Rel (rel_of l)
   give env
-consume_step (Asrt-F.Acq at inst part out) mood rung env = do
-  a ← term at env
-  args ← terms inst.args env
+
+abbrev pub acq_consumed : Expression → Instance → ℕ → List Expression → Consume
+acq_consumed at inst part out mood rung env = do
+  l ← leave_terms at inst env
   values ← terms out env
-  f ← find_or kind.Acq (permission_of (record { leave = leave a inst.inv args; part = part; out = values }))
+  f ← find_or kind.Acq (permission_of (record { leave = l; part = part; out = values }))
   take f
   give env
-consume_step (Asrt-F.RmwAcq at inst) mood rung env = do
-  a ← term at env
-  args ← terms inst.args env
-  find_or kind.Rmw (rmw_of (leave a inst.inv args))
+
+abbrev pub rmw_consumed : Expression → Instance → Consume
+rmw_consumed at inst mood rung env = do
+  l ← leave_terms at inst env
+  find_or kind.Rmw (rmw_of l)
   give env
-consume_step (Asrt-F.Tok bank n) mood rung env = do
+
+abbrev pub tok_consumed : ℕ → Expression → Consume
+tok_consumed bank n mood rung env = do
   k ← term n env
   consume_tokens (bank_of bank env) k
   give env
-consume_step (Asrt-F.Auth bank n) mood rung env = do
+
+abbrev pub auth_consumed : ℕ → Expression → Consume
+auth_consumed bank n mood rung env = do
   k ← term n env
   consume_authority (bank_of bank env) k
   give env
-consume_step (Asrt-F.Choice cond a b) mood rung env = do
+
+abbrev pub choice_consumed : Condition → Consume → Consume → Consume
+choice_consumed cond a b mood rung env = do
   holds ← decided cond env
   chosen a b holds mood rung env
-consume_step (Asrt-F.Up a) mood rung env = a mood Up env
-consume_step (Asrt-F.Down a) mood rung env = a mood Down env
-consume_step (Asrt-F.Both parts) mood rung env = consume_all parts mood rung env
 
-abbrev pub consume : Asrt → Consume
-consume = fold-Asrt Consume consume_step
+abbrev pub all_consumed : List Consume → Consume
+all_consumed [] mood rung env = give env
+all_consumed (a ∷ rest) mood rung env = do
+  e ← a mood rung env
+  all_consumed rest mood rung e

@@ -4,12 +4,13 @@ use Rattle.std.specs.Prelude.{Bool, true, false, not, ◌&&◌, ◌||◌, filter
 use Rattle.fsl_core.specs.declared.expr.Cond.{Cond}
 use Rattle.fsl_core.specs.declared.expr.Cond.TheVariants as cond
 use Rattle.fsl_core.specs.declared.expr.CmpOp.{CmpOp}
+use Rattle.fsl_core.specs.declared.expr.Expr.{Expr}
 use Rattle.fsl_core.specs.declared.expr.CmpOp.TheVariants as cmp_op
 use Rattle.fsl_core.specs.declared.verdict.Kind.{Kind}
 use Rattle.fsl_core.specs.declared.verdict.Kind.TheVariants as kind
 use Rattle.fsl_core.specs.States.{Env}
 use Rattle.fsl_core.specs.logic.States.{State, goes, fails, Rule, Action, ◌>>=◌, ◌>>◌, give, done, look, demand}
-use Rattle.fsl_core.specs.logic.Terms.{term}
+use Rattle.fsl_core.specs.logic.Terms.{Expression, term}
 use Rattle.fsl_lin.specs.Combination.{Combination, plus, minus, constant, is_narrow}
 use Rattle.fsl_lin.specs.Facts.{proves_le, proves_is, absurd_facts, facts_fit}
 use Rattle.fsl_lin.specs.Numbers.{part, gapped}
@@ -90,11 +91,27 @@ decide cmp_op.Le a b = decide_at_most a (pos 0) b
 decide cmp_op.Gt a b = decide_at_most b (pos 1) a
 decide cmp_op.Ge a b = decide_at_most b (pos 0) a
 
+-- a condition, with its expressions read
+pub data Condition : Type 0 where
+  always : Condition
+  never : Condition
+  compares : CmpOp → Expression → Expression → Condition
+
+abbrev pub cond_of : (Expr → Expression) → Cond → Condition
+cond_of read cond.Yes = always
+cond_of read cond.No = never
+cond_of read (cond.Cmp op l r) = compares op (read l) (read r)
+
+abbrev pub cond_says : Condition → Bool
+cond_says always = false
+cond_says never = false
+cond_says (compares op l r) = l.says || r.says
+
 -- the sides of a condition
-abbrev pub sides : Cond → Env → Rule (List Side)
-sides cond.Yes env = give (known true)
-sides cond.No env = give (known false)
-sides (cond.Cmp op l r) env = do
+abbrev pub sides : Condition → Env → Rule (List Side)
+sides always env = give (known true)
+sides never env = give (known false)
+sides (compares op l r) env = do
   a ← term l env
   b ← term r env
   look (λ s. decide op a b s.facts)
@@ -113,11 +130,11 @@ abbrev pub sides_of : Bool → List Side → List Side
 sides_of answer xs = filter (λ x. agrees answer x.holds) xs
 
 -- a condition is decided
-abbrev pub decided : Cond → Env → Rule Bool
+abbrev pub decided : Condition → Env → Rule Bool
 decided cond env = sides cond env >>= each_side
 
 -- a condition is assumed to hold, or not to hold
-abbrev pub assume_cond : Bool → Cond → Env → Action
+abbrev pub assume_cond : Bool → Condition → Env → Action
 assume_cond answer cond env = do
   xs ← sides cond env
   each_side (sides_of answer xs)
@@ -129,7 +146,7 @@ is_sure (x ∷ []) = x.holds
 is_sure _ = false
 
 -- a condition has to be proved, else the path fails by this kind
-abbrev pub demand_cond : Kind → Cond → Env → Action
+abbrev pub demand_cond : Kind → Condition → Env → Action
 demand_cond kind cond env = do
   xs ← sides cond env
   demand kind (is_sure xs)

@@ -1,7 +1,6 @@
 -- The rules of fences: a release fence sets resources apart for relaxed writes, and an acquire fence gives those that
 -- relaxed reads have gained.
 use Rattle.std.specs.Prelude.{Bool, true, false, not, filter, List, [], ◌∷◌}
-use Rattle.fsl_core.specs.declared.assertion.Asrt.{Asrt}
 use Rattle.fsl_core.specs.declared.chunk.Chunk.{Chunk}
 use Rattle.fsl_core.specs.declared.chunk.Chunk.TheVariants as chunk
 use Rattle.fsl_core.specs.declared.mode.Mode.{Mode}
@@ -10,8 +9,8 @@ use Rattle.fsl_core.specs.declared.mode.Rung.TheVariants.{Plain, Up, Down}
 use Rattle.fsl_core.specs.declared.verdict.Mood.TheVariants as mood
 use Rattle.fsl_core.specs.logic.States.{goes, Rule, Action, ◌>>=◌, ◌>>◌, done, here}
 use Rattle.fsl_core.specs.logic.Chunks.{same_rung}
-use Rattle.fsl_core.specs.logic.Producing.{produce, produce_chunks}
-use Rattle.fsl_core.specs.logic.Consuming.{consume}
+use Rattle.fsl_core.specs.logic.Producing.{produce_chunks}
+use Rattle.fsl_core.specs.logic.Assertions.{Assertion}
 use Rattle.fsl_core.specs.logic.Accesses.{acquires, releases}
 
 -- a chunk stands at this rung
@@ -29,11 +28,11 @@ acquire = do
   cs ← take_all Down
   produce_chunks Plain cs
 
-abbrev pub release : Asrt → Action
+abbrev pub release : Assertion → Action
 release a = do
   env ← here
-  consume a mood.Cond Plain env
-  produce a Up env
+  a.consume mood.Cond Plain env
+  a.produce Up env
   done
 
 abbrev pub only : Bool → Action → Action
@@ -41,7 +40,7 @@ only true rule = rule
 only false rule = done
 
 -- one that does both acquires first
-abbrev pub fence : Mode → Asrt → Action
+abbrev pub fence : Mode → Assertion → Action
 fence m a = do
   only (acquires m) acquire
   only (releases m) (release a)

@@ -1,22 +1,18 @@
 -- Consuming what a read-modify-write passes on: first from the message that it has read, and then from the thread.
 use Rattle.std.specs.Prelude.{Bool, true, false, List, [], ◌∷◌, ◌++◌, map, Option, Some, None, pos}
-use Rattle.fsl_core.specs.declared.assertion.Asrt.{Asrt}
-use Rattle.fsl_core.specs.declared.assertion.Asrt.TheOpen.{Asrt-F}
-use Rattle.fsl_core.specs.declared.assertion.Asrt.TheFolds.{fold-Asrt}
 use Rattle.fsl_core.specs.declared.chunk.Chunk.{Chunk}
 use Rattle.fsl_core.specs.declared.chunk.Chunk.TheVariants as chunk
 use Rattle.fsl_core.specs.declared.mode.Rung.{Rung}
-use Rattle.fsl_core.specs.declared.mode.Rung.TheVariants.{Up, Down, Msg}
+use Rattle.fsl_core.specs.declared.mode.Rung.TheVariants.{Msg}
 use Rattle.fsl_core.specs.declared.verdict.Kind.TheVariants as kind
 use Rattle.fsl_core.specs.declared.verdict.Mood.TheVariants as mood
 use Rattle.fsl_core.specs.States.{Env}
 use Rattle.fsl_core.specs.logic.States.{Rule, Action, ◌>>=◌, ◌>>◌, give, done, look}
-use Rattle.fsl_core.specs.logic.Terms.{term, fitting}
-use Rattle.fsl_core.specs.logic.Deciding.{decide_at_most, each_side, decided}
+use Rattle.fsl_core.specs.logic.Terms.{Expression, term, fitting}
+use Rattle.fsl_core.specs.logic.Deciding.{Condition, decide_at_most, each_side, decided}
 use Rattle.fsl_core.specs.logic.Chunks.{Found, first, find_or, Cell, cell_at, init_at}
-use Rattle.fsl_core.specs.logic.Producing.{Wanted, any, wanted, chosen}
-use Rattle.fsl_core.specs.logic.Consuming.{Consume, consume_step, consume_cell, demand_share, match_value, rest_of}
-use Rattle.fsl_core.specs.logic.Locations.{Piece}
+use Rattle.fsl_core.specs.logic.Producing.{Wanted, any, Pattern, wanted, chosen}
+use Rattle.fsl_core.specs.logic.Consuming.{Consume, consume_cell, demand_share, match_value, rest_of}
 use Rattle.fsl_lin.specs.Combination.{Combination, minus}
 
 -- a chunk of the message, and whether a share was taken from it
@@ -48,7 +44,7 @@ left_in f None = f.before ++ f.behind
 left_in f (Some r) = f.before ++ record { chunk = chunk.Points Msg f.is.at r f.is.value; touched = true } ∷ f.behind
 
 -- a share k of a cell, of which the message holds some: enough, or not enough
-abbrev pub pass_share : Rung → Combination → Combination → Wanted → Taking → Found Held Cell → Bool → Rule Taking
+abbrev pub pass_share : Rung → Combination → Combination → Wanted Combination → Taking → Found Held Cell → Bool → Rule Taking
 pass_share second at k w t f true = do
   e ← match_value w f.is.value t.env
   r ← rest_of f.is.share k
@@ -59,7 +55,7 @@ pass_share second at k w t f false = do
   consume_cell second at r any e
   give (record { env = e; held = f.before ++ f.behind })
 
-abbrev pub pass_cell : Rung → Combination → Combination → Wanted → Taking → Option (Found Held Cell) → Rule Taking
+abbrev pub pass_cell : Rung → Combination → Combination → Wanted Combination → Taking → Option (Found Held Cell) → Rule Taking
 pass_cell second at k w t None = do
   e ← consume_cell second at k w t.env
   give (record { env = e; held = t.held })
@@ -74,45 +70,29 @@ pass_init second at None = do
   find_or kind.Init (init_at second at)
   done
 
-abbrev pub pass_all : List Passing → Passing
-pass_all [] second t = give t
-pass_all (x ∷ xs) second t = do
-  u ← x second t
-  pass_all xs second u
-
-abbrev pub pass_step : Asrt-F Passing → Passing
-pass_step Asrt-F.Emp second t = give t
-pass_step (Asrt-F.Fact cond) second t = by_thread (consume_step (Asrt-F.Fact cond)) second t
-pass_step (Asrt-F.Points at share pat) second t = do
+abbrev pub points_passed : Expression → Expression → Pattern → Passing
+points_passed at share pat second t = do
   a ← term at t.env
   k ← term share t.env
   w ← wanted pat t.env
   demand_share k
   f ← look (λ s. first (λ h. cell_at Msg a s.facts h.chunk) t.held)
   pass_cell second a k w t f
-pass_step (Asrt-F.Init at) second t = do
+
+abbrev pub init_passed : Expression → Passing
+init_passed at second t = do
   a ← term at t.env
   f ← look (λ s. first (λ h. init_at Msg a s.facts h.chunk) t.held)
   pass_init second a f
   give t
-pass_step (Asrt-F.Rel at inst) second t = by_thread (consume_step (Asrt-F.Rel at inst)) second t
-pass_step (Asrt-F.Acq at inst part out) second t = by_thread (consume_step (Asrt-F.Acq at inst part out)) second t
-pass_step (Asrt-F.RmwAcq at inst) second t = by_thread (consume_step (Asrt-F.RmwAcq at inst)) second t
-pass_step (Asrt-F.Tok bank n) second t = by_thread (consume_step (Asrt-F.Tok bank n)) second t
-pass_step (Asrt-F.Auth bank n) second t = by_thread (consume_step (Asrt-F.Auth bank n)) second t
-pass_step (Asrt-F.Choice cond a b) second t = do
+
+abbrev pub choice_passed : Condition → Passing → Passing → Passing
+choice_passed cond a b second t = do
   holds ← decided cond t.env
   chosen a b holds second t
-pass_step (Asrt-F.Up a) second t = a Up t
-pass_step (Asrt-F.Down a) second t = a Down t
-pass_step (Asrt-F.Both parts) second t = pass_all parts second t
 
-abbrev pub pass : Asrt → Passing
-pass = fold-Asrt Passing pass_step
-
--- all parts of an invariant, whose binders are apart; what the message holds in the end
-abbrev pub pass_parts : Rung → List Piece → List Held → Rule (List Held)
-pass_parts second [] held = give held
-pass_parts second (x ∷ xs) held = do
-  t ← pass x.asrt second (record { env = x.env; held = held })
-  pass_parts second xs t.held
+abbrev pub all_passed : List Passing → Passing
+all_passed [] second t = give t
+all_passed (a ∷ rest) second t = do
+  u ← a second t
+  all_passed rest second u

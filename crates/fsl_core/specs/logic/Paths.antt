@@ -16,15 +16,16 @@ use Rattle.fsl_core.specs.declared.verdict.Kind.TheVariants as kind
 use Rattle.fsl_core.specs.declared.verdict.Mood.TheVariants as mood
 use Rattle.fsl_core.specs.Paths.{End, derived, failed}
 use Rattle.fsl_core.specs.logic.States.{State, goes, fails, Branches, Rule, Action, ◌>>=◌, ◌>>◌, done, here, set}
-use Rattle.fsl_core.specs.logic.Terms.{term}
-use Rattle.fsl_core.specs.logic.Deciding.{decided, assume_cond, demand_cond}
-use Rattle.fsl_core.specs.logic.Producing.{nought, chosen, produce}
-use Rattle.fsl_core.specs.logic.Consuming.{consume}
+use Rattle.fsl_core.specs.logic.Terms.{Expression, expr_of, term}
+use Rattle.fsl_core.specs.logic.Deciding.{Condition, cond_of, decided, assume_cond, demand_cond}
+use Rattle.fsl_core.specs.logic.Producing.{nought, chosen, inst_of}
+use Rattle.fsl_core.specs.logic.Assertions.{Assertion, asrt_of}
+use Rattle.fsl_core.specs.logic.Locations.{Setting, setting_of, Contract, contract_of}
 use Rattle.fsl_core.specs.logic.Accesses.{alloc_na, alloc_at, load, store, free}
-use Rattle.fsl_core.specs.logic.Tokens.{new_bank, token_step}
+use Rattle.fsl_core.specs.logic.Tokens.{new_bank, step_of, token_step}
 use Rattle.fsl_core.specs.logic.Fences.{fence}
 use Rattle.fsl_core.specs.logic.Updates.{cas, fetch_add, exchange}
-use Rattle.fsl_core.specs.logic.Calls.{enter, finish, call, par}
+use Rattle.fsl_core.specs.logic.Calls.{enter, finish, call, call_of, par}
 use Rattle.fsl_core.specs.logic.Slots.{past, renew, drop_chunks}
 
 -- the ends of the paths that go on from a state
@@ -57,22 +58,22 @@ all_sets ms = flat_map (λ m. m.sets) ms
 
 -- the rules of single statements
 
-abbrev pub set_to : ℕ → Expr → Action
+abbrev pub set_to : ℕ → Expression → Action
 set_to slot e = do
   env ← here
   t ← term e env
   set slot t
 
-abbrev pub print : Expr → Action
+abbrev pub print : Expression → Action
 print e = do
   env ← here
   term e env
   done
 
-abbrev pub assert : Cond → Action
+abbrev pub assert : Condition → Action
 assert cond = here >>= demand_cond kind.Assert cond
 
-abbrev pub return : Asrt → Expr → Action
+abbrev pub return : Assertion → Expression → Action
 return post e = do
   env ← here
   t ← term e env
@@ -81,39 +82,42 @@ return post e = do
 abbrev pub path_ends : Span → Ends
 path_ends at s = derived at ∷ []
 
+abbrev pub return_meaning : Assertion → Expression → Span → Meaning
+return_meaning post e at = record { sets = []; ends = λ declared s after. each at (return post e s) (λ x. path_ends at) }
+
 -- ---- branches and loops
 
-abbrev pub if_meaning : Cond → List Meaning → List Meaning → Span → Meaning
+abbrev pub if_meaning : Condition → List Meaning → List Meaning → Span → Meaning
 if_meaning cond a b at = record {
   sets = all_sets a ++ all_sets b;
   ends = λ declared s after. each at ((here >>= decided cond) s) (λ holds t. block (chosen a b holds) declared t after);
 }
 
 -- the invariant with the variables that the loop changes at some round, and what the condition then says
-abbrev pub round : Bool → Cond → Asrt → ℕ → List ℕ → Action
+abbrev pub round : Bool → Condition → Assertion → ℕ → List ℕ → Action
 round answer cond inv declared sets = do
   renew declared sets
   env ← here
-  produce inv Plain env
+  inv.produce Plain env
   assume_cond answer cond env
 
-abbrev pub give_inv : Asrt → Action
+abbrev pub give_inv : Assertion → Action
 give_inv inv = do
   env ← here
-  consume inv mood.Loop Plain env
+  inv.consume mood.Loop Plain env
   done
 
 -- the body has nothing but the invariant, and gives it back
-abbrev pub body_ends : Cond → Asrt → List Meaning → Span → ℕ → Ends
+abbrev pub body_ends : Condition → Assertion → List Meaning → Span → ℕ → Ends
 body_ends cond inv body at declared s =
     each at ((drop_chunks >> round true cond inv declared (all_sets body)) s) (λ x t.
     block body declared t (λ u. each at (give_inv inv u) (λ y. path_ends at)))
 
 -- behind the loop the invariant stands beside what the loop didn't need
-abbrev pub behind_ends : Cond → Asrt → List Meaning → Span → ℕ → Ends → Ends
+abbrev pub behind_ends : Condition → Assertion → List Meaning → Span → ℕ → Ends → Ends
 behind_ends cond inv body at declared after s = each at (round false cond inv declared (all_sets body) s) (λ x. after)
 
-abbrev pub while_meaning : Cond → Asrt → List Meaning → Span → Meaning
+abbrev pub while_meaning : Condition → Assertion → List Meaning → Span → Meaning
 while_meaning cond inv body at = record {
   sets = all_sets body;
   ends = λ declared s after. each at (give_inv inv s) (λ x t. body_ends cond inv body at declared t ++ behind_ends cond inv body at declared after t);
@@ -125,33 +129,41 @@ abbrev pub set_by_call : Option ℕ → List ℕ
 set_by_call None = []
 set_by_call (Some slot) = slot ∷ []
 
--- an act at its statement's place, in a procedure with this `ensures`
-abbrev pub act_step : Program → Asrt → Act-F (Span → Meaning) Meaning → Span → Meaning
-act_step p post (Act-F.Set slot e) = by_rule (slot ∷ []) (set_to slot e)
-act_step p post (Act-F.AllocNa slot) = by_rule (slot ∷ []) (alloc_na slot)
-act_step p post (Act-F.AllocAt slot rmw inst) = by_rule (slot ∷ []) (alloc_at p slot rmw inst)
-act_step p post (Act-F.Free at) = by_rule [] (free at)
-act_step p post (Act-F.Load slot mode at) = by_rule (slot ∷ []) (load p slot mode at)
-act_step p post (Act-F.Store mode at e) = by_rule [] (store p mode at e)
-act_step p post (Act-F.Cas slot mode miss at old new steps) = by_rule (slot ∷ []) (cas p slot mode at old new steps)
-act_step p post (Act-F.Add slot mode at e steps) = by_rule (slot ∷ []) (fetch_add p slot mode at e steps)
-act_step p post (Act-F.Swap slot mode at e steps) = by_rule (slot ∷ []) (exchange p slot mode at e steps)
-act_step p post (Act-F.Call slot proc args) = by_rule (set_by_call slot) (call p slot proc args)
-act_step p post (Act-F.Par calls) = by_rule [] (par p calls)
-act_step p post (Act-F.Fence mode asrt) = by_rule [] (fence mode asrt)
-act_step p post (Act-F.If cond a b) = if_meaning cond a b
-act_step p post (Act-F.While cond inv body) = while_meaning cond inv body
-act_step p post (Act-F.Assert cond) = by_rule [] (assert cond)
-act_step p post (Act-F.Print e) = by_rule [] (print e)
-act_step p post (Act-F.Return e) = λ at. record { sets = []; ends = λ declared s after. each at (return post e s) (λ x. path_ends at) }
-act_step p post (Act-F.Bank slot) = by_rule (slot ∷ []) (new_bank slot)
-act_step p post (Act-F.Step step) = by_rule [] (token_step step)
+-- how expressions and assertions are read, and what a procedure's statements refer to
+pub record Reading : Type 0 where
+  pub expr : Expr → Expression
+  pub asrt : Asrt → Assertion
+  pub setting : Setting
+  pub post : Assertion  -- the procedure's own `ensures`
+
+-- one level of an act, at its statement's place
+abbrev pub act_step : Reading → Act-F (Span → Meaning) Meaning → Span → Meaning
+act_step r (Act-F.Set slot e) = by_rule (slot ∷ []) (set_to slot (r.expr e))
+act_step r (Act-F.AllocNa slot) = by_rule (slot ∷ []) (alloc_na slot)
+act_step r (Act-F.AllocAt slot rmw inst) = by_rule (slot ∷ []) (alloc_at r.setting slot rmw (inst_of r.expr inst))
+act_step r (Act-F.Free at) = by_rule [] (free (r.expr at))
+act_step r (Act-F.Load slot mode at) = by_rule (slot ∷ []) (load r.setting slot mode (r.expr at))
+act_step r (Act-F.Store mode at e) = by_rule [] (store r.setting mode (r.expr at) (r.expr e))
+act_step r (Act-F.Cas slot mode miss at old new steps) =
+    by_rule (slot ∷ []) (cas r.setting slot mode (r.expr at) (r.expr old) (r.expr new) (map (step_of r.expr) steps))
+act_step r (Act-F.Add slot mode at e steps) = by_rule (slot ∷ []) (fetch_add r.setting slot mode (r.expr at) (r.expr e) (map (step_of r.expr) steps))
+act_step r (Act-F.Swap slot mode at e steps) = by_rule (slot ∷ []) (exchange r.setting slot mode (r.expr at) (r.expr e) (map (step_of r.expr) steps))
+act_step r (Act-F.Call slot proc args) = by_rule (set_by_call slot) (call r.setting slot proc (map r.expr args))
+act_step r (Act-F.Par calls) = by_rule [] (par r.setting (map (call_of r.expr) calls))
+act_step r (Act-F.Fence mode asrt) = by_rule [] (fence mode (r.asrt asrt))
+act_step r (Act-F.If cond a b) = if_meaning (cond_of r.expr cond) a b
+act_step r (Act-F.While cond inv body) = while_meaning (cond_of r.expr cond) (r.asrt inv) body
+act_step r (Act-F.Assert cond) = by_rule [] (assert (cond_of r.expr cond))
+act_step r (Act-F.Print e) = by_rule [] (print (r.expr e))
+act_step r (Act-F.Return e) = return_meaning r.post (r.expr e)
+act_step r (Act-F.Bank slot) = by_rule (slot ∷ []) (new_bank slot)
+act_step r (Act-F.Step step) = by_rule [] (token_step (step_of r.expr step))
 
 abbrev pub stmt_step : Stmt-F (Span → Meaning) Meaning → Meaning
 stmt_step stmt = stmt.act stmt.span
 
-abbrev pub meaning : Program → Asrt → Stmt → Meaning
-meaning p post = fold-Stmt (Span → Meaning) Meaning (act_step p post) stmt_step
+abbrev pub stmt_of : Reading → Stmt → Meaning
+stmt_of r = fold-Stmt (Span → Meaning) Meaning (act_step r) stmt_step
 
 -- ---- procedures
 
@@ -160,12 +172,19 @@ abbrev pub nowhere : Span
 nowhere = record { from = 0; to = 0 }
 
 -- a path that comes to the closing brace has the result 0
-abbrev pub closing : Proc → Ends
-closing q s = each q.last (finish q.post nought s) (λ x. path_ends q.last)
+abbrev pub closing : Assertion → Span → Ends
+closing post at s = each at (finish post nought s) (λ x. path_ends at)
 
 abbrev pub start : State
 start = record { env = []; facts = []; chunks = []; next = 0 }
 
--- the ends of the paths of a procedure, in order
+-- the ends of the paths of a procedure in order, by its contract, what its statements mean and its closing brace
+abbrev pub ends_by : Contract → List Meaning → Span → List End
+ends_by c body last = each nowhere (enter c start) (λ x s. block body 0 s (closing c.post last))
+
+-- how a procedure of a program is read
+abbrev pub reading_of : Program → Proc → Reading
+reading_of p q = record { expr = expr_of; asrt = asrt_of; setting = setting_of asrt_of p; post = asrt_of q.post }
+
 abbrev pub ends_of : Program → Proc → List End
-ends_of p q = each nowhere (enter q start) (λ x s. block (map (meaning p q.post) q.body) 0 s (closing q))
+ends_of p q = ends_by (contract_of asrt_of q) (map (stmt_of (reading_of p q)) q.body) q.last

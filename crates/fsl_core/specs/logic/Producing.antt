@@ -1,18 +1,16 @@
 -- Producing an assertion at a rung: what it says is assumed, and what it owns is added to the chunks.
-use Rattle.std.specs.Prelude.{ℕ, ◌^◌, Bool, true, false, List, [], ◌∷◌, Option, Some, None, pos, slice_set, get_or}
-use Rattle.fsl_core.specs.declared.assertion.Asrt.{Asrt}
-use Rattle.fsl_core.specs.declared.assertion.Asrt.TheOpen.{Asrt-F}
-use Rattle.fsl_core.specs.declared.assertion.Asrt.TheFolds.{fold-Asrt}
+use Rattle.std.specs.Prelude.{ℕ, ◌^◌, Bool, true, false, List, [], ◌∷◌, map, Option, Some, None, pos, slice_set, get_or}
+use Rattle.fsl_core.specs.declared.assertion.Inst.{Inst}
 use Rattle.fsl_core.specs.declared.assertion.Pat.{Pat}
 use Rattle.fsl_core.specs.declared.assertion.Pat.TheVariants as pat
 use Rattle.fsl_core.specs.declared.chunk.Chunk.{Chunk}
 use Rattle.fsl_core.specs.declared.chunk.Chunk.TheVariants as chunk
+use Rattle.fsl_core.specs.declared.expr.Expr.{Expr}
 use Rattle.fsl_core.specs.declared.mode.Rung.{Rung}
-use Rattle.fsl_core.specs.declared.mode.Rung.TheVariants.{Up, Down}
 use Rattle.fsl_core.specs.States.{Env}
 use Rattle.fsl_core.specs.logic.States.{Rule, Action, ◌>>=◌, ◌>>◌, give, done, look, new_symbol}
-use Rattle.fsl_core.specs.logic.Terms.{term, terms, fitting}
-use Rattle.fsl_core.specs.logic.Deciding.{assume_at_most, assume_equal, assume_cond, decided}
+use Rattle.fsl_core.specs.logic.Terms.{Expression, term, terms, fitting}
+use Rattle.fsl_core.specs.logic.Deciding.{Condition, assume_at_most, assume_equal, assume_cond, decided}
 use Rattle.fsl_core.specs.logic.Chunks.{Found, Reading, find, put, add, Cell, Leave, leave, Count, cell_chunk, cell_at, init_at, rel_of, rmw_of, tokens_of, authority_of}
 use Rattle.fsl_lin.specs.Combination.{Combination, plus, constant}
 use Rattle.fsl_lin.specs.declared.fact.Fact.{Fact}
@@ -141,28 +139,57 @@ produce_chunks rung (c ∷ cs) = do
 
 -- ---- assertions
 
--- a pattern with its term
-pub data Wanted : Type 0 where
-  any : Wanted
-  bind : ℕ → Wanted
-  equals : Combination → Wanted
+-- a pattern: nothing, a binder, or something that the value is equal to
+pub data Wanted (X : Type 0) : Type 0 where
+  any : Wanted X
+  bind : ℕ → Wanted X
+  equals : X → Wanted X
 
-abbrev pub wanted : Pat → Env → Rule Wanted
-wanted pat.Any env = give any
-wanted (pat.Bind slot) env = give (bind slot)
-wanted (pat.Is e) env = do
+abbrev pub Pattern : Type 0
+Pattern = Wanted Expression
+
+abbrev pub pat_of : (Expr → Expression) → Pat → Pattern
+pat_of read pat.Any = any
+pat_of read (pat.Bind slot) = bind slot
+pat_of read (pat.Is e) = equals (read e)
+
+abbrev pub pat_says : Pattern → Bool
+pat_says any = false
+pat_says (bind slot) = false
+pat_says (equals e) = e.says
+
+-- a pattern with its term
+abbrev pub wanted : Pattern → Env → Rule (Wanted Combination)
+wanted any env = give any
+wanted (bind slot) env = give (bind slot)
+wanted (equals e) env = do
   t ← term e env
   give (equals t)
 
+-- a location's invariant with its arguments
+pub record Instance : Type 0 where
+  pub inv : ℕ
+  pub args : List Expression
+
+abbrev pub inst_of : (Expr → Expression) → Inst → Instance
+inst_of read i = record { inv = i.inv; args = map read i.args }
+
+-- a location with its invariant, in terms
+abbrev pub leave_terms : Expression → Instance → Env → Rule Leave
+leave_terms at inst env = do
+  a ← term at env
+  args ← terms inst.args env
+  give (leave a inst.inv args)
+
 -- a share of a cell with the value of a pattern; a binder is a new symbol
-abbrev pub produce_wanted : Rung → Combination → Combination → Wanted → Env → Rule Env
-produce_wanted rung at share any env = do
+abbrev pub add_wanted : Rung → Combination → Combination → Wanted Combination → Env → Rule Env
+add_wanted rung at share any env = do
   add_cell rung (record { at = at; share = share; value = None })
   give env
-produce_wanted rung at share (equals t) env = do
+add_wanted rung at share (equals t) env = do
   add_cell rung (record { at = at; share = share; value = Some t })
   give env
-produce_wanted rung at share (bind slot) env = do
+add_wanted rung at share (bind slot) env = do
   v ← new_symbol
   add_cell rung (record { at = at; share = share; value = Some v })
   give (slice_set env slot v)
@@ -175,62 +202,70 @@ bank_of slot env = get_or env slot nought
 abbrev pub Produce : Type 0
 Produce = Rung → Env → Rule Env
 
--- one after the other
-abbrev pub produce_all : List Produce → Produce
-produce_all [] rung env = give env
-produce_all (p ∷ ps) rung env = do
-  e ← p rung env
-  produce_all ps rung e
+abbrev pub emp_produced : Produce
+emp_produced rung env = give env
+
+abbrev pub fact_produced : Condition → Produce
+fact_produced cond rung env = do
+  assume_cond true cond env
+  give env
+
+abbrev pub points_produced : Expression → Expression → Pattern → Produce
+points_produced at share pat rung env = do
+  a ← term at env
+  k ← term share env
+  w ← wanted pat env
+  assume_share k
+  add_wanted rung a k w env
+
+abbrev pub init_produced : Expression → Produce
+init_produced at rung env = do
+  a ← term at env
+  produce_init rung a
+  give env
+
+abbrev pub rel_produced : Expression → Instance → Produce
+rel_produced at inst rung env = do
+  l ← leave_terms at inst env
+  produce_rel l
+  give env
+
+abbrev pub acq_produced : Expression → Instance → ℕ → List Expression → Produce
+acq_produced at inst part out rung env = do
+  l ← leave_terms at inst env
+  values ← terms out env
+  add (chunk.Acq l.at l.inv l.args part values)
+  give env
+
+abbrev pub rmw_produced : Expression → Instance → Produce
+rmw_produced at inst rung env = do
+  l ← leave_terms at inst env
+  produce_rmw l
+  give env
+
+abbrev pub tok_produced : ℕ → Expression → Produce
+tok_produced bank n rung env = do
+  k ← term n env
+  produce_tokens (bank_of bank env) k
+  give env
+
+abbrev pub auth_produced : ℕ → Expression → Produce
+auth_produced bank n rung env = do
+  k ← term n env
+  produce_authority (bank_of bank env) k
+  give env
 
 abbrev pub chosen : {X : Type 0} → X → X → Bool → X
 chosen x y true = x
 chosen x y false = y
 
-abbrev pub produce_step : Asrt-F Produce → Produce
-produce_step Asrt-F.Emp rung env = give env
-produce_step (Asrt-F.Fact cond) rung env = do
-  assume_cond true cond env
-  give env
-produce_step (Asrt-F.Points at share pat) rung env = do
-  a ← term at env
-  k ← term share env
-  w ← wanted pat env
-  assume_share k
-  produce_wanted rung a k w env
-produce_step (Asrt-F.Init at) rung env = do
-  a ← term at env
-  produce_init rung a
-  give env
-produce_step (Asrt-F.Rel at inst) rung env = do
-  a ← term at env
-  args ← terms inst.args env
-  produce_rel (leave a inst.inv args)
-  give env
-produce_step (Asrt-F.Acq at inst part out) rung env = do
-  a ← term at env
-  args ← terms inst.args env
-  values ← terms out env
-  add (chunk.Acq a inst.inv args part values)
-  give env
-produce_step (Asrt-F.RmwAcq at inst) rung env = do
-  a ← term at env
-  args ← terms inst.args env
-  produce_rmw (leave a inst.inv args)
-  give env
-produce_step (Asrt-F.Tok bank n) rung env = do
-  k ← term n env
-  produce_tokens (bank_of bank env) k
-  give env
-produce_step (Asrt-F.Auth bank n) rung env = do
-  k ← term n env
-  produce_authority (bank_of bank env) k
-  give env
-produce_step (Asrt-F.Choice cond a b) rung env = do
+abbrev pub choice_produced : Condition → Produce → Produce → Produce
+choice_produced cond a b rung env = do
   holds ← decided cond env
   chosen a b holds rung env
-produce_step (Asrt-F.Up a) rung env = a Up env
-produce_step (Asrt-F.Down a) rung env = a Down env
-produce_step (Asrt-F.Both parts) rung env = produce_all parts rung env
 
-abbrev pub produce : Asrt → Produce
-produce = fold-Asrt Produce produce_step
+abbrev pub all_produced : List Produce → Produce
+all_produced [] rung env = give env
+all_produced (a ∷ rest) rung env = do
+  e ← a rung env
+  all_produced rest rung e

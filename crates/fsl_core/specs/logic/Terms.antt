@@ -1,6 +1,7 @@
 -- The term of an expression: a whole-number combination of symbols, where it is one. A product is a term where one
 -- side is a number by what is known. Each number of a term, and of those on the way, stays within its bound.
-use Rattle.std.specs.Prelude.{Bool, true, false, List, [], ◌∷◌, Option, Some, None, ℤ, pos, negsuc, get_or, if◌then◌else◌}
+use Rattle.std.specs.Prelude.{Bool, true, false, List, [], ◌∷◌, map, Option, Some, None, ℤ, pos, negsuc, get_or, if◌then◌else◌}
+use Rattle.std.specs.List.{list_any}
 use Rattle.fsl_core.specs.declared.expr.Expr.{Expr}
 use Rattle.fsl_core.specs.declared.expr.Expr.TheOpen.{Expr-F, Part-F}
 use Rattle.fsl_core.specs.declared.expr.Expr.TheFolds.{fold-Expr}
@@ -43,27 +44,41 @@ product_from facts env product (p ∷ ps) =
     with_term (p facts env) (λ t.
     with_term (multiplied (constant_of facts product) (constant_of facts t) product t) (λ s. product_from facts env s ps))
 
--- the result of a procedure is the last item of its environment, behind the variables
-abbrev pub term_step : Expr-F Term (Bool × Term) → Term
-term_step (Expr-F.Const n) facts env = narrow (constant n)
-term_step (Expr-F.Var slot) facts env = Some (get_or env slot (constant (pos 0)))
-term_step Expr-F.Result_ facts env = Some (last_or (constant (pos 0)) env)
-term_step (Expr-F.Neg e) facts env = with_term (e facts env) (λ t. narrow (times (negsuc 0) t))
-term_step (Expr-F.Sum parts) facts env = sum_from facts env (constant (pos 0)) parts
-term_step (Expr-F.Product factors) facts env = product_from facts env (constant (pos 1)) factors
+-- an expression: its term, and whether it speaks of the result of the procedure
+pub record Expression : Type 0 where
+  pub term : Term
+  pub says : Bool
 
-abbrev pub part_step : Part-F Term (Bool × Term) → Bool × Term
+abbrev pub signed_term : Bool × Expression → Bool × Term
+signed_term p = (p.0, p.1.term)
+
+-- the result is the last item of an environment, behind the variables
+abbrev pub expr_step : Expr-F Expression (Bool × Expression) → Expression
+expr_step (Expr-F.Const n) = record { term = λ facts env. narrow (constant n); says = false }
+expr_step (Expr-F.Var slot) = record { term = λ facts env. Some (get_or env slot (constant (pos 0))); says = false }
+expr_step Expr-F.Result_ = record { term = λ facts env. Some (last_or (constant (pos 0)) env); says = true }
+expr_step (Expr-F.Neg e) = record { term = λ facts env. with_term (e.term facts env) (λ t. narrow (times (negsuc 0) t)); says = e.says }
+expr_step (Expr-F.Sum parts) = record {
+  term = λ facts env. sum_from facts env (constant (pos 0)) (map signed_term parts);
+  says = list_any (λ p. p.1.says) parts;
+}
+expr_step (Expr-F.Product factors) = record {
+  term = λ facts env. product_from facts env (constant (pos 1)) (map (λ e. e.term) factors);
+  says = list_any (λ e. e.says) factors;
+}
+
+abbrev pub part_step : Part-F Expression (Bool × Expression) → Bool × Expression
 part_step p = (p.minus, p.e)
 
-abbrev pub term_of : Expr → Term
-term_of = fold-Expr Term (Bool × Term) term_step part_step
+abbrev pub expr_of : Expr → Expression
+expr_of = fold-Expr Expression (Bool × Expression) expr_step part_step
 
 -- the term of an expression is needed
-abbrev pub term : Expr → Env → Rule Combination
-term e env = λ s. demand_some kind.Term (term_of e s.facts env) s
+abbrev pub term : Expression → Env → Rule Combination
+term e env = λ s. demand_some kind.Term (e.term s.facts env) s
 
 -- those of several, from left to right
-abbrev pub terms : List Expr → Env → Rule (List Combination)
+abbrev pub terms : List Expression → Env → Rule (List Combination)
 terms [] env = give []
 terms (e ∷ es) env = do
   t ← term e env

@@ -1,25 +1,22 @@
 -- The rule of read-modify-writes. What the message holds is divided into what is passed on with the new value and
 -- what the thread keeps.
 use Rattle.std.specs.Prelude.{ℕ, ◌^◌, ◌-◌, Bool, true, false, ◌&&◌, List, [], ◌∷◌, map, Option, Some, None, is_some, pos, negsuc, if◌then◌else◌}
-use Rattle.fsl_core.specs.declared.act.Step.{Step}
 use Rattle.fsl_core.specs.declared.chunk.Chunk.{Chunk}
 use Rattle.fsl_core.specs.declared.chunk.Chunk.TheVariants as chunk
-use Rattle.fsl_core.specs.declared.expr.Expr.{Expr}
 use Rattle.fsl_core.specs.declared.mode.Mode.{Mode}
 use Rattle.fsl_core.specs.declared.mode.Rung.{Rung}
 use Rattle.fsl_core.specs.declared.mode.Rung.TheVariants.{Plain, Down, Msg}
-use Rattle.fsl_core.specs.declared.program.Program.{Program}
 use Rattle.fsl_core.specs.declared.verdict.Kind.TheVariants as kind
 use Rattle.fsl_core.specs.logic.States.{State, Rule, Action, ◌>>=◌, ◌>>◌, give, done, look, new_symbol, here, set}
-use Rattle.fsl_core.specs.logic.Terms.{term, fitting}
+use Rattle.fsl_core.specs.logic.Terms.{Expression, term, fitting}
 use Rattle.fsl_core.specs.logic.Deciding.{assume_at_most, decide_equal, each_side}
 use Rattle.fsl_core.specs.logic.Chunks.{Found, first, find_or, Leave, cell_at, init_at, rel_at, rmw_at}
-use Rattle.fsl_core.specs.logic.Producing.{produce, produce_chunk, chosen}
-use Rattle.fsl_core.specs.logic.Locations.{parts_at, each_part}
+use Rattle.fsl_core.specs.logic.Producing.{produce_chunk, chosen}
+use Rattle.fsl_core.specs.logic.Locations.{Setting, parts_at, produce_parts, pass_parts}
 use Rattle.fsl_core.specs.logic.Accesses.{acquires, giving}
-use Rattle.fsl_core.specs.logic.Tokens.{token_steps}
+use Rattle.fsl_core.specs.logic.Tokens.{TokenStep, token_steps}
 use Rattle.fsl_core.specs.logic.Fences.{take_all}
-use Rattle.fsl_core.specs.logic.Messages.{Held, untouched, pass_parts}
+use Rattle.fsl_core.specs.logic.Messages.{Held, untouched}
 use Rattle.fsl_lin.specs.Combination.{Combination, plus, constant}
 
 -- what is needed of a location: that it was written, and leave to write it and to read-modify-write it
@@ -53,16 +50,16 @@ keep acquiring (h ∷ hs) = do
   keep acquiring hs
 
 -- the value o is read and replaced by `new`
-abbrev pub replace : Program → Mode → List Step → Leaves → Combination → Combination → Action
+abbrev pub replace : Setting → Mode → List TokenStep → Leaves → Combination → Combination → Action
 replace p m steps l o new = do
-  each_part (λ a env. produce a Msg env) (parts_at p l.rmw o)
+  produce_parts Msg (parts_at p l.rmw o)
   token_steps steps
   cs ← take_all Msg
   held ← pass_parts (giving m) (parts_at p l.rel new) (map untouched cs)
   keep (acquires m) held
 
 -- one that finds another value gains nothing
-abbrev pub cas : Program → ℕ → Mode → Expr → Expr → Expr → List Step → Action
+abbrev pub cas : Setting → ℕ → Mode → Expression → Expression → Expression → List TokenStep → Action
 cas p slot m at old new steps = do
   env ← here
   a ← term at env
@@ -75,7 +72,7 @@ cas p slot m at old new steps = do
   chosen (replace p m steps l o n) done same
   set slot o
 
-abbrev pub exchange : Program → ℕ → Mode → Expr → Expr → List Step → Action
+abbrev pub exchange : Setting → ℕ → Mode → Expression → Expression → List TokenStep → Action
 exchange p slot m at e steps = do
   env ← here
   a ← term at env
@@ -86,7 +83,7 @@ exchange p slot m at e steps = do
   set slot o
 
 -- the sum is a value
-abbrev pub fetch_add : Program → ℕ → Mode → Expr → Expr → List Step → Action
+abbrev pub fetch_add : Setting → ℕ → Mode → Expression → Expression → List TokenStep → Action
 fetch_add p slot m at e steps = do
   env ← here
   a ← term at env
