@@ -182,9 +182,9 @@ start = record { env = []; facts = []; chunks = []; next = 0 }
 abbrev pub ends_by : Contract → List Meaning → Span → List End
 ends_by c body last = each nowhere (enter c start) (λ x s. block body 0 s (closing c.post last))
 
--- how a procedure of a program is read
-abbrev pub reading_of : Program → Proc → Reading
-reading_of p q = record { expr = expr_of; asrt = asrt_of; setting = setting_of asrt_of p; post = asrt_of q.post }
+-- how the statements of a procedure of a program are read
+abbrev pub reading_by : (Expr → Expression) → (Asrt → Assertion) → Program → Proc → Reading
+reading_by expr asrt p q = record { expr = expr; asrt = asrt; setting = setting_of asrt p; post = asrt q.post }
 
 abbrev pub ends_of : Program → Proc → List End
-ends_of p q = ends_by (contract_of asrt_of q) (map (stmt_of (reading_of p q)) q.body) q.last
+ends_of p q = ends_by (contract_of asrt_of q) (map (stmt_of (reading_by expr_of asrt_of p q)) q.body) q.last
