@@ -15,3 +15,4 @@ pub mod Calls
 pub mod Slots
 pub mod Paths
 pub mod Verdicts
+pub mod Words
