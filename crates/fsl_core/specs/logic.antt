@@ -16,3 +16,9 @@ pub mod Slots
 pub mod Paths
 pub mod Verdicts
 pub mod Words
+pub mod ExampleCells
+pub mod JudgedCells
+pub mod ExampleMessages
+pub mod JudgedMessages
+pub mod ExampleUpdates
+pub mod JudgedUpdates
