@@ -1,2 +1,6 @@
 pub mod Distinct
+pub mod JudgedCells
+pub mod JudgedMessages
+pub mod JudgedUpdates
 pub mod Parts
+pub mod Quick
