@@ -1,5 +1,6 @@
 pub mod Distinct
 pub mod JudgedCells
+pub mod JudgedFences
 pub mod JudgedMessages
 pub mod JudgedUpdates
 pub mod Parts

@@ -1,5 +1,5 @@
 -- Folds over trees, level by level: what they come to on a tree that is written out.
-use Rattle.std.proofs.Common.{◌≡◌, ℕ, zero, suc, Bool, List, map, refl, sym, ap, ◌∙◌}
+use Rattle.std.proofs.Common.{arith, ◌≡◌, ℕ, zero, suc, ◌+◌, Bool, true, false, List, [], ◌∷◌, map, length, get_or, refl, sym, ap, ◌∙◌}
 use Rattle.fsl_base.specs.declared.span.Span.{Span}
 use Rattle.fsl_core.specs.declared.act.Act.{Act}
 use Rattle.fsl_core.specs.declared.act.Act.TheFolds.{fold-Act, fold_out-Act, fold_out-Stmt, map-Act, map-Stmt}
@@ -14,13 +14,18 @@ use Rattle.fsl_core.specs.declared.expr.Expr.TheViews.{out-Expr, out-Part}
 use Rattle.fsl_core.specs.declared.expr.Part.{Part}
 use Rattle.fsl_core.specs.declared.program.Proc.{Proc}
 use Rattle.fsl_core.specs.declared.program.Program.{Program}
+use Rattle.fsl_core.specs.declared.verdict.Outcome.{Outcome}
+use Rattle.fsl_core.specs.declared.verdict.Outcome.TheVariants.{Derived, Fails}
 use Rattle.fsl_core.specs.declared.verdict.Verdict.{Verdict}
+use Rattle.fsl_core.specs.declared.verdict.Verdict.TheVariants.{Accepted}
 use Rattle.fsl_core.specs.Paths.{End}
+use Rattle.fsl_core.specs.Verdicts.{outcome_from, verdict_from}
 use Rattle.fsl_core.specs.logic.Terms.{Expression, expr_step, part_step, expr_of}
 use Rattle.fsl_core.specs.logic.Assertions.{Assertion, asrt_step, asrt_of}
 use Rattle.fsl_core.specs.logic.Locations.{contract_of}
 use Rattle.fsl_core.specs.logic.Paths.{Meaning, Reading, act_step, stmt_step, stmt_of, reading_by, ends_by, ends_of}
-use Rattle.fsl_core.specs.logic.Verdicts.{verdict_by, verdict_of}
+use Rattle.fsl_core.specs.logic.Verdicts.{outcomes, verdict_by, verdict_of}
+use Rattle.fsl_core.specs.logic.Words.{nothing, span, proc}
 
 -- ---- expressions
 
@@ -82,3 +87,33 @@ ends_same p =
 
 pub verdict_quick : (p : Program) (v : Verdict) → verdict_by (quick_ends p) p.procs ≡ v → verdict_of p ≡ v
 verdict_quick p v h = sym (ap (λ (ends : Proc → List End). verdict_by ends p.procs) (ends_same p)) ∙ h
+
+-- ---- verdicts, procedure by procedure
+
+-- a procedure by its number; behind the last one stands one without statements
+abbrev pub proc_at : ℕ → List Proc → Proc
+proc_at n qs = get_or qs n (proc [] 0 0 [] nothing nothing [] (span 0 0))
+
+abbrev pub is_derived : Outcome → Bool
+is_derived (Derived paths) = true
+is_derived (Fails proc at kind) = false
+
+-- each procedure is derived; the first one has this number
+abbrev pub AllDerived : (Proc → List End) → ℕ → List Proc → Type 0
+AllDerived ends number [] = Unit {0}
+AllDerived ends number (q ∷ qs) = (is_derived (outcome_from number 0 (ends q)) ≡ true) × AllDerived ends (number + 1) qs
+
+derived_next : (o : Outcome) (n : ℕ) (os : List Outcome) → is_derived o ≡ true → verdict_from n (o ∷ os) ≡ verdict_from (n + 1) os
+derived_next (Derived paths) n os h = refl
+derived_next (Fails proc at kind) n os h = cc
+
+accepted_from : (ends : Proc → List End) (number n : ℕ) (qs : List Proc) → AllDerived ends number qs
+  → verdict_from n (outcomes ends number qs) ≡ Accepted (n + length qs)
+accepted_from ends number n [] all = ap Accepted (omega arith)
+accepted_from ends number n (q ∷ qs) all =
+    derived_next (outcome_from number 0 (ends q)) n (outcomes ends (number + 1) qs) all.0
+  ∙ accepted_from ends (number + 1) (n + 1) qs all.1
+  ∙ ap Accepted (omega arith)
+
+pub accepted_quick : (p : Program) → AllDerived (quick_ends p) 0 p.procs → verdict_of p ≡ Accepted (length p.procs)
+accepted_quick p all = verdict_quick p (Accepted (length p.procs)) (accepted_from (quick_ends p) 0 0 p.procs all ∙ ap Accepted (omega arith))

@@ -13,7 +13,8 @@ use Rattle.fsl_core.specs.logic.States.{Rule, Action, ◌>>=◌, ◌>>◌, give,
 use Rattle.fsl_core.specs.logic.Terms.{Expression, term, terms, fitting}
 use Rattle.fsl_core.specs.logic.Deciding.{Condition, proves_at_most, proves_equal, assume_at_most, decided, demand_cond}
 use Rattle.fsl_core.specs.logic.Chunks.{Found, Reading, when, find, find_or, put, take, Cell, Leave, leave, Permission, same_leave, cell_at, enough_at, init_at, rel_of, rmw_of, tokens_of, authority_of}
-use Rattle.fsl_core.specs.logic.Producing.{nought, Wanted, any, bind, equals, Pattern, wanted, Instance, leave_terms, bank_of, chosen}
+use Rattle.fsl_core.specs.logic.Joining.{nought}
+use Rattle.fsl_core.specs.logic.Producing.{Wanted, any, bind, equals, Pattern, wanted, Instance, leave_terms, bank_of, chosen}
 use Rattle.fsl_lin.specs.Combination.{Combination, minus, constant}
 use Rattle.fsl_lin.specs.declared.fact.Fact.{Fact}
 

@@ -15,10 +15,11 @@ use Rattle.fsl_core.specs.declared.program.Program.{Program}
 use Rattle.fsl_core.specs.declared.verdict.Kind.TheVariants as kind
 use Rattle.fsl_core.specs.declared.verdict.Mood.TheVariants as mood
 use Rattle.fsl_core.specs.Paths.{End, derived, failed}
-use Rattle.fsl_core.specs.logic.States.{State, goes, fails, Branches, Rule, Action, ◌>>=◌, ◌>>◌, done, here, set}
+use Rattle.fsl_core.specs.logic.States.{State, goes, fails, Branches, Rule, Action, ◌>>=◌, ◌>>◌, done, change, here, set}
 use Rattle.fsl_core.specs.logic.Terms.{Expression, expr_of, term}
 use Rattle.fsl_core.specs.logic.Deciding.{Condition, cond_of, decided, assume_cond, demand_cond}
-use Rattle.fsl_core.specs.logic.Producing.{nought, chosen, inst_of}
+use Rattle.fsl_core.specs.logic.Joining.{nought}
+use Rattle.fsl_core.specs.logic.Producing.{chosen, inst_of}
 use Rattle.fsl_core.specs.logic.Assertions.{Assertion, asrt_of}
 use Rattle.fsl_core.specs.logic.Locations.{Setting, setting_of, Contract, contract_of}
 use Rattle.fsl_core.specs.logic.Accesses.{alloc_na, alloc_at, load, store, free}
@@ -26,7 +27,7 @@ use Rattle.fsl_core.specs.logic.Tokens.{new_bank, step_of, token_step}
 use Rattle.fsl_core.specs.logic.Fences.{fence}
 use Rattle.fsl_core.specs.logic.Updates.{cas, fetch_add, exchange}
 use Rattle.fsl_core.specs.logic.Calls.{enter, finish, call, call_of, par}
-use Rattle.fsl_core.specs.logic.Slots.{past, renew, drop_chunks}
+use Rattle.fsl_core.specs.logic.Slots.{past, renew}
 
 -- the ends of the paths that go on from a state
 abbrev pub Ends : Type 0
@@ -106,6 +107,10 @@ give_inv inv = do
   env ← here
   inv.consume mood.Loop Plain env
   done
+
+-- nothing is owned
+abbrev pub drop_chunks : Action
+drop_chunks = change (λ s. record s { chunks = [] })
 
 -- the body has nothing but the invariant, and gives it back
 abbrev pub body_ends : Condition → Assertion → List Meaning → Span → ℕ → Ends

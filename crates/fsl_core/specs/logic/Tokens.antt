@@ -8,7 +8,8 @@ use Rattle.fsl_core.specs.declared.verdict.Kind.TheVariants as kind
 use Rattle.fsl_core.specs.logic.States.{Rule, Action, ◌>>=◌, ◌>>◌, done, new_symbol, here, set}
 use Rattle.fsl_core.specs.logic.Terms.{Expression, term, fitting}
 use Rattle.fsl_core.specs.logic.Chunks.{find_or, put, add, Count, authority_of}
-use Rattle.fsl_core.specs.logic.Producing.{nought, bank_of, produce_tokens}
+use Rattle.fsl_core.specs.logic.Joining.{nought, produce_tokens}
+use Rattle.fsl_core.specs.logic.Producing.{bank_of}
 use Rattle.fsl_core.specs.logic.Consuming.{demand_at_most, consume_tokens}
 use Rattle.fsl_lin.specs.Combination.{Combination, plus, minus}
 

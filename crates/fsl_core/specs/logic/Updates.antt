@@ -11,7 +11,8 @@ use Rattle.fsl_core.specs.logic.States.{State, Rule, Action, ◌>>=◌, ◌>>◌
 use Rattle.fsl_core.specs.logic.Terms.{Expression, term, fitting}
 use Rattle.fsl_core.specs.logic.Deciding.{assume_at_most, decide_equal, each_side}
 use Rattle.fsl_core.specs.logic.Chunks.{Found, first, find_or, Leave, cell_at, init_at, rel_at, rmw_at}
-use Rattle.fsl_core.specs.logic.Producing.{produce_chunk, chosen}
+use Rattle.fsl_core.specs.logic.Joining.{at_rung, produce_chunk}
+use Rattle.fsl_core.specs.logic.Producing.{chosen}
 use Rattle.fsl_core.specs.logic.Locations.{Setting, parts_at, produce_parts, pass_parts}
 use Rattle.fsl_core.specs.logic.Accesses.{acquires, giving}
 use Rattle.fsl_core.specs.logic.Tokens.{TokenStep, token_steps}
@@ -46,7 +47,7 @@ abbrev pub keep : Bool → List Held → Action
 keep acquiring [] = done
 keep acquiring (h ∷ hs) = do
   rung ← look (keeping acquiring h)
-  produce_chunk rung h.chunk
+  produce_chunk (at_rung rung h.chunk)
   keep acquiring hs
 
 -- the value o is read and replaced by `new`

@@ -48,6 +48,9 @@ plus e = record { minus = false; e = e }
 abbrev pub minus : Expr → Part
 minus e = record { minus = true; e = e }
 
+abbrev pub negated : Expr → Expr
+negated e = roll-Expr (Expr-F.Neg e)
+
 abbrev pub sum : List Part → Expr
 sum parts = roll-Expr (Expr-F.Sum parts)
 
