@@ -1,5 +1,5 @@
 -- The rules of allocations, loads, stores and frees.
-use Rattle.std.specs.Prelude.{ℕ, ◌+◌, Bool, true, false, ◌&&◌, List, [], ◌∷◌, ◌++◌, Option, Some, None, pos, slice_set, slice_get, if◌then◌else◌}
+use Rattle.std.specs.Prelude.{ℕ, ◌+◌, Bool, true, false, List, [], ◌∷◌, ◌++◌, Some, None, pos, slice_set, slice_get, if◌then◌else◌}
 use Rattle.fsl_core.specs.declared.chunk.Chunk.{Chunk}
 use Rattle.fsl_core.specs.declared.chunk.Chunk.TheVariants as chunk
 use Rattle.fsl_core.specs.declared.mode.Mode.{Mode}

@@ -1,5 +1,5 @@
 -- Words that write programs out: expressions, conditions, assertions, statements, invariants and procedures.
-use Rattle.std.specs.Prelude.{ℕ, ◌-◌, ◌^◌, Bool, true, false, List, [], ◌∷◌, Option, pos, negsuc}
+use Rattle.std.specs.Prelude.{ℕ, ◌-◌, ◌^◌, true, false, List, pos, negsuc}
 use Rattle.fsl_base.specs.declared.span.Span.{Span}
 use Rattle.fsl_core.specs.declared.act.Act.{Act}
 use Rattle.fsl_core.specs.declared.act.Act.TheOpen.{Act-F}
@@ -19,7 +19,6 @@ use Rattle.fsl_core.specs.declared.expr.Expr.{Expr}
 use Rattle.fsl_core.specs.declared.expr.Expr.TheOpen.{Expr-F}
 use Rattle.fsl_core.specs.declared.expr.Expr.TheViews.{roll-Expr}
 use Rattle.fsl_core.specs.declared.expr.Part.{Part}
-use Rattle.fsl_core.specs.declared.mode.Mode.{Mode}
 use Rattle.fsl_core.specs.declared.program.Inv.{Inv}
 use Rattle.fsl_core.specs.declared.program.Proc.{Proc}
 use Rattle.fsl_core.specs.declared.program.Program.{Program}
