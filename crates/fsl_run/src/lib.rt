@@ -3,7 +3,5 @@
 #![tactic(auto)]
 
 mod running;
-#[cfg(test)]
-mod tests;
 
 pub use running::{Ran, RunWords, run};
