@@ -1,10 +1,10 @@
 //! Whole runs over a shelf and a sink in memory: what no clause says is that memory is found, and which bytes
 //! are which program.
+mod runs;
+
 use crate::commands::{check_cmd, fslpp};
-use crate::run::run_cmd;
 use crate::status::Status;
 use fsl_base::{Cut, List, MemShelf, MemSink, Named, OpenGate, Text};
-use fsl_run::RunWords;
 use std::alloc::{AllocError, Global};
 use std::process::Abort;
 use std::test::Fail;
@@ -208,111 +208,6 @@ fn the_number_of_workers_changes_no_answer(rt: HostRuntime) -> Result<(), Fail> 
             assert_eq!(rt; got, Status(status), "{workers} workers");
             assert_eq!(rt; sink.written(), said.as_bytes(), "{workers} workers");
         }
-    }
-    Ok(())
-}
-
-#[test]
-fn programs_are_run(rt: HostRuntime) {
-    for (text, status, said) in [
-        (
-            "proc main() { }",
-            0,
-            "execution 1
-end finished
-thread 0 proc 0 moves 1 args
-event 0 thread 0 end 0
-done
-",
-        ),
-        (
-            "proc main() { let d = alloc na; store na(d, 7); let x = load na(d); assert (x == 7); }",
-            0,
-            "execution 1
-end finished
-thread 0 proc 0 moves 5 args
-event 0 thread 0 alloc na 1
-event 1 thread 0 store na 1 7
-event 2 thread 0 load na 1 7 from 1
-event 3 thread 0 end 0
-mo 1: 1
-done
-",
-        ),
-        (
-            "proc main() { print(-9223372036854775808); }",
-            0,
-            "execution 1
-end finished
-thread 0 proc 0 moves 2 args
-event 0 thread 0 print -9223372036854775808
-event 1 thread 0 end 0
-done
-",
-        ),
-        (
-            "proc main() { print(9223372036854775808); }",
-            8,
-            "execution 1
-end halted 0
-thread 0 proc 0 moves 1 args
-done
-",
-        ),
-        (
-            "proc main() { let d = alloc na; let x = load na(d); }",
-            1,
-            "failed main 1:33 uninit\n",
-        ),
-        ("proc main() { print(x); }", 3, "refused form\n"),
-    ] {
-        expect(
-            &rt,
-            run(
-                &rt,
-                rt.alloc(),
-                &["fslpp", "run", "f"],
-                text.as_bytes(),
-                &[],
-                None,
-            ),
-            status,
-            said,
-        );
-    }
-}
-
-// A store and a load, of which two moves are made; a seed changes nothing, since there is one candidate always.
-#[test]
-fn a_run_stops_at_its_bound(rt: HostRuntime) -> Result<(), Fail> {
-    let text = "proc main() { let d = alloc na; store na(d, 7); let x = load na(d); assert (x == 7); }";
-    for seed in [None, Some(5)] {
-        let mut shelf = shelf(rt.alloc(), text.as_bytes(), &[])?;
-        let mut sink = MemSink::new(rt.alloc(), 512, List::new(rt.alloc()))?;
-        let how = RunWords {
-            workers: 1,
-            seed,
-            steps: 2,
-        };
-        let got = run_cmd(
-            &rt,
-            rt.alloc(),
-            "f",
-            how,
-            &mut shelf,
-            &mut sink,
-            &OpenGate,
-        );
-        let wanted = "execution 1
-end spent
-thread 0 proc 0 moves 2 args
-event 0 thread 0 alloc na 1
-event 1 thread 0 store na 1 7
-mo 1: 1
-done
-";
-        assert_eq!(rt; got, Status(7));
-        assert_eq!(rt; sink.written(), wanted.as_bytes());
     }
     Ok(())
 }
