@@ -1,7 +1,6 @@
 //! What an event did, and the lines of events.
 ghost use Rattle.std.specs.Prelude.{◌≡◌, ◌++◌, codes, IfOk, OnOk};
-ghost use Rattle.std.specs.Fmt.{signed_decimal};
-ghost use Rattle.fsl_exec_text.specs.Texts.{event_line, event_lines, source_text, what};
+ghost use Rattle.fsl_exec_text.specs.Texts.{event_line, event_lines, numbers, results, source_text, what};
 
 use crate::numbers::{push_numbers, push_results};
 use crate::words::{kind_word, mode_word};
@@ -33,9 +32,7 @@ fn load_text(
     let mode = mode_word(mode);
     let source = source_text(alloc, from)?;
     let source = source.as_str();
-    Ok(Text::from_string(
-        format!(in alloc; "load {mode} {loc} {value}{source}")?,
-    ))
+    Ok(Text::from_string(format!(in alloc; "load {mode} {loc} {value}{source}")?))
 }
 
 /// `rmw M L OLD NEW from E`
@@ -52,14 +49,12 @@ fn rmw_text(
     let mode = mode_word(mode);
     let source = source_text(alloc, from)?;
     let source = source.as_str();
-    Ok(Text::from_string(
-        format!(in alloc; "rmw {mode} {loc} {old} {new}{source}")?,
-    ))
+    Ok(Text::from_string(format!(in alloc; "rmw {mode} {loc} {old} {new}{source}")?))
 }
 
 /// `fork T1 T2`
 fn fork_text(alloc: Global, children: &List<u32>) -> Result<Text, AllocError>
-    ensures { (from : Option ℕ) → IfOk result (λ text. text ≡ what (Label.Fork children.now) from) }
+    ensures { IfOk result (λ text. text ≡ codes "fork" ++ numbers children.now) }
 {
     let mut text = Text::from_str(alloc, "fork")?;
     push_numbers(alloc, &mut text, children.as_slice())?;
@@ -67,11 +62,11 @@ fn fork_text(alloc: Global, children: &List<u32>) -> Result<Text, AllocError>
 }
 
 /// `join T1=V1 T2=V2`
-fn join_text(alloc: Global, results: &List<Ended>) -> Result<Text, AllocError>
-    ensures { (from : Option ℕ) → IfOk result (λ text. text ≡ what (Label.Join results.now) from) }
+fn join_text(alloc: Global, listed: &List<Ended>) -> Result<Text, AllocError>
+    ensures { IfOk result (λ text. text ≡ codes "join" ++ results listed.now) }
 {
     let mut text = Text::from_str(alloc, "join")?;
-    push_results(alloc, &mut text, results.as_slice())?;
+    push_results(alloc, &mut text, listed.as_slice())?;
     Ok(text)
 }
 
@@ -89,9 +84,7 @@ fn what(alloc: Global, event: &Event) -> Result<Text, AllocError>
         Label::Load { mode, loc, value } => load_text(alloc, *mode, *loc, *value, from),
         Label::Store { mode, loc, value } => {
             let mode = mode_word(*mode);
-            Ok(Text::from_string(
-                format!(in alloc; "store {mode} {loc} {value}")?,
-            ))
+            Ok(Text::from_string(format!(in alloc; "store {mode} {loc} {value}")?))
         }
         Label::Rmw {
             mode,
@@ -117,9 +110,7 @@ fn event_line(alloc: Global, number: usize, event: &Event) -> Result<Text, Alloc
     let thread = event.thread;
     let what = what(alloc, event)?;
     let what = what.as_str();
-    Ok(Text::from_string(
-        format!(in alloc; "event {number} thread {thread} {what}\n")?,
-    ))
+    Ok(Text::from_string(format!(in alloc; "event {number} thread {thread} {what}\n")?))
 }
 
 /// Adds the lines of events, which are numbered from 0.

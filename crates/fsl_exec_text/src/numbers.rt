@@ -7,14 +7,10 @@ use fsl_core::Ended;
 use std::alloc::{AllocError, Global};
 
 /// Adds numbers of threads or events.
-pub(crate) fn push_numbers(
-    alloc: Global,
-    text: &mut Text,
-    numbers: &[u32],
-) -> Result<(), AllocError>
-    ensures { OnOk result (text.new ≡ text.old ++ numbers numbers.now) }
+pub(crate) fn push_numbers(alloc: Global, text: &mut Text, listed: &[u32]) -> Result<(), AllocError>
+    ensures { OnOk result (text.new ≡ text.old ++ numbers listed.now) }
 {
-    for number in numbers {
+    for number in listed {
         text.push_str(format!(in alloc; " {number}")?.as_str())?;
     }
     Ok(())
@@ -38,11 +34,11 @@ pub(crate) fn push_integers(
 pub(crate) fn push_results(
     alloc: Global,
     text: &mut Text,
-    results: &[Ended],
+    listed: &[Ended],
 ) -> Result<(), AllocError>
-    ensures { OnOk result (text.new ≡ text.old ++ results results.now) }
+    ensures { OnOk result (text.new ≡ text.old ++ results listed.now) }
 {
-    for ended in results {
+    for ended in listed {
         let Ended { thread, value } = *ended;
         text.push_str(format!(in alloc; " {thread}={value}")?.as_str())?;
     }

@@ -46,9 +46,9 @@ fn end_line(alloc: Global, end: End) -> Result<Text, AllocError>
     match end {
         End::Finished => Text::from_str(alloc, "end finished\n"),
         End::Spent => Text::from_str(alloc, "end spent\n"),
-        End::Halted { thread } => Ok(Text::from_string(
-            format!(in alloc; "end halted {thread}\n")?,
-        )),
+        End::Halted { thread } => Ok(Text::from_string(format!(in alloc;
+            "end halted {thread}\n"
+        )?)),
         End::Limit { kind } => {
             let kind = limit_word(kind);
             Ok(Text::from_string(format!(in alloc; "end limit {kind}\n")?))
@@ -61,9 +61,9 @@ fn thread_line(alloc: Global, number: usize, thread: &Thread) -> Result<Text, Al
     ensures { IfOk result (λ text. text ≡ thread_line number thread.now) }
 {
     let Thread { proc, moves, .. } = thread;
-    let mut text = Text::from_string(
-        format!(in alloc; "thread {number} proc {proc} moves {moves} args")?,
-    );
+    let mut text = Text::from_string(format!(in alloc;
+        "thread {number} proc {proc} moves {moves} args"
+    )?);
     push_integers(alloc, &mut text, thread.args.as_slice())?;
     text.push_str("\n")?;
     Ok(text)
