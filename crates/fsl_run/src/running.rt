@@ -43,11 +43,7 @@ pub fn run<G: Gate>(alloc: Global, p: Program, how: RunWords, gate: &G) -> Resul
 
 /// Makes moves until the run ends.
 #[tactic(auto, using(crate::proofs::Going::moves_one_more, crate::proofs::Going::length_one_more, crate::proofs::Going::not_refused, crate::proofs::Going::not_spent))]
-fn finish<C: Choose, G: Gate>(
-    machine: Machine,
-    choose: &mut C,
-    gate: &G,
-) -> Result<Ran, AllocError>
+fn finish<C: Choose, G: Gate>(machine: Machine, choose: &mut C, gate: &G) -> Result<Ran, AllocError>
     requires { 0 < length machine.graph.threads }
     ensures { IfOk result (λ ran. IsRunOf machine.program machine.bound ran.graph ran.end) }
 {
