@@ -2,6 +2,7 @@
 //! program, consistent and acyclic, with an end that has its cause in it.
 #![tactic(auto)]
 
+pub mod laws;
 mod running;
 
 pub use running::{Ran, RunWords, run};
