@@ -2,9 +2,11 @@
 use super::{expect, run, shelf};
 use crate::run::run_cmd;
 use crate::status::Status;
-use fsl_base::{List, MemSink, OpenGate};
+use fsl_base::{Gate, List, MemSink, OpenGate, Spot};
 use fsl_run::RunWords;
 use std::alloc::{AllocError, Global};
+use std::sync::atomic::AtomicU32;
+use std::sync::atomic::Ordering::SeqCst;
 use std::test::Fail;
 use std::thread::Threads;
 
@@ -191,4 +193,37 @@ fn a_run_that_is_not_read_or_not_written_says_so(rt: HostRuntime) {
             said,
         );
     }
+}
+
+// Counts the moves of the first thread.
+#[derive(Drop)]
+struct CountsMoves {
+    moves: AtomicU32,
+}
+
+impl Gate for CountsMoves {
+    fn before(&self, spot: Spot) {
+        if let Spot::Move { thread: 0 } = spot {
+            self.moves.fetch_add(1, SeqCst);
+        }
+    }
+}
+
+#[test]
+fn the_gate_is_called_before_each_move(rt: HostRuntime) -> Result<(), Fail> {
+    let alloc = rt.alloc();
+    let mut shelf = shelf(alloc, CELL.as_bytes(), &[])?;
+    let mut sink = MemSink::new(alloc, 512, List::new(alloc))?;
+    let gate = CountsMoves {
+        moves: AtomicU32::new(0),
+    };
+    let how = RunWords {
+        workers: 1,
+        seed: None,
+        steps: 100,
+    };
+    let status = run_cmd(&rt, alloc, "f", how, &mut shelf, &mut sink, &gate);
+    assert_eq!(rt; status, Status(0));
+    assert_eq!(rt; gate.moves.load(SeqCst), 5);
+    Ok(())
 }
