@@ -133,6 +133,7 @@ impl Machine {
     pub fn end(&self) -> Option<End>
         ensures cause { IfSome result (IsEnd self.now.program self.now.bound self.now.graph (λ t. self.now.config)) }
         ensures none { IfNone result (MayGoOn self.now.bound self.now.graph (λ t. self.now.config)) }
+        ensures ready { IfNone result (readiness_of self.now.config ≡ Readiness.Ready) }
     {
         match readiness(&self.config) {
             Readiness::Done => Some(End::Finished),

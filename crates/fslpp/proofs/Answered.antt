@@ -1,13 +1,19 @@
 -- What is known of an answer once it is composed, and of the words once they are read.
-use Rattle.std.proofs.Common.{◌≡◌, ℕ, List, Option, None, Some, Result, Ok, Err, IfOk, sym, subst}
+use Rattle.std.proofs.Common.{◌≡◌, ℕ, List, Option, None, Some, Result, Ok, Err, IfOk, sym, subst, refl}
 use Rattle.fsl_core.specs.declared.program.Program.{Program}
 use Rattle.fsl_types.specs.Reading.{ReadsAs}
 use Rattle.fslpp.specs.declared.answer.Answer.{Answer}
 use Rattle.fslpp.specs.declared.refused.Refused.{Refused}
 use Rattle.fslpp.specs.declared.refused.Refused.TheVariants as refusals
 use Rattle.fslpp.specs.declared.status.Status.{Status}
-use Rattle.fslpp.specs.Answers.{Reading, IsOnly, Writing, HasFile, HasCause, IsChecked, judged, refused, IsSaid, IsAnswered, checked_name, answer, verdict_answer, refusal}
+use Rattle.fslpp.specs.Answers.{Reading, IsOnly, Writing, HasFile, HasCause, IsChecked, judged, refused, IsSaid, IsAnswered, IsRan, IsRunAnswer, fails, runs, has_program, has_none, answer, run_answer, verdict_answer, verdict_status, refusal}
 use Rattle.fslpp.specs.Texts.{usage}
+use Rattle.fsl_core.specs.declared.verdict.Verdict.{Verdict}
+use Rattle.fsl_core.specs.declared.verdict.Verdict.TheVariants.{Accepted, Failed}
+use Rattle.fsl_core.specs.Verdicts.{verdict_of}
+use Rattle.fsl_machine.specs.declared.ends.End.{End}
+use Rattle.fsl_graph.specs.declared.graph.Graph.{Graph}
+use Rattle.fsl_run.specs.Runs.{IsRunOf}
 
 pub judged_is : {E : Type 0} (r : Reading) (bytes : List ℕ) (p : Program) → HasFile r.content r.name bytes → ReadsAs bytes p → IsOnly bytes p
     → (result : Result Answer E) → IfOk result (λ a. a ≡ verdict_answer bytes p) → IfOk result (λ a. IsChecked r a)
@@ -18,3 +24,23 @@ pub refused_is : {E : Type 0} (r : Reading) (fault : Refused) → HasCause r fau
     → (result : Result Answer E) → IfOk result (λ a. refusal fault ≡ Some a) → IfOk result (λ a. IsChecked r a)
 refused_is r fault cause (Ok a) is = refused fault cause is
 refused_is r fault cause (Err e) is = tt
+
+pub run_is : {E : Type 0} (r : Reading) (steps : ℕ) (bytes : List ℕ) (p : Program) → HasFile r.content r.name bytes → ReadsAs bytes p → IsOnly bytes p
+    → (result : Result Answer E) → IfOk result (IsRunAnswer bytes p steps) → IfOk result (IsRan r steps)
+run_is r steps bytes p file reads only (Ok a) is = has_program bytes p file reads only is
+run_is r steps bytes p file reads only (Err e) is = tt
+
+pub not_read_is : {E : Type 0} (r : Reading) (steps : ℕ) (fault : Refused) → HasCause r fault
+    → (result : Result Answer E) → IfOk result (λ a. refusal fault ≡ Some a) → IfOk result (IsRan r steps)
+not_read_is r steps fault cause (Ok a) is = has_none fault cause is
+not_read_is r steps fault cause (Err e) is = tt
+
+-- a verdict that isn't accepted has status 1
+pub failed_one : (v : Verdict) → (verdict_status v ≡ 0 → ⊥) → verdict_status v ≡ 1
+failed_one (Accepted n) h = grind
+failed_one (Failed proc at kind) h = refl
+
+pub runs_so : {E : Type 0} (bytes : List ℕ) (p : Program) (steps : ℕ) (g : Graph) (end : End) → verdict_status (verdict_of p) ≡ 0 → IsRunOf p steps g end
+    → (result : Result Answer E) → IfOk result (λ a. a ≡ run_answer g end) → IfOk result (IsRunAnswer bytes p steps)
+runs_so bytes p steps g end accepted is (Ok a) said = runs accepted g end is said
+runs_so bytes p steps g end accepted is (Err e) said = tt

@@ -8,6 +8,11 @@ use Rattle.fsl_core.specs.declared.verdict.Verdict.{Verdict}
 use Rattle.fsl_core.specs.declared.verdict.Verdict.TheVariants.{Accepted, Failed}
 use Rattle.fsl_core.specs.Straight.{is_straight}
 use Rattle.fsl_core.specs.Verdicts.{verdict_of}
+use Rattle.fsl_exec_text.specs.Texts.{execution_text}
+use Rattle.fsl_graph.specs.declared.graph.Graph.{Graph}
+use Rattle.fsl_machine.specs.declared.ends.End.{End}
+use Rattle.fsl_machine.specs.declared.ends.End.TheVariants as ends
+use Rattle.fsl_run.specs.Runs.{IsRunOf}
 use Rattle.fsl_types.specs.Reading.{ReadsAs}
 use Rattle.fslpp.specs.declared.answer.Answer.{Answer}
 use Rattle.fslpp.specs.declared.refused.Refused.{Refused}
@@ -29,6 +34,17 @@ verdict_status (Failed proc at kind) = 1
 -- the answer on the program that these bytes are
 abbrev pub verdict_answer : List ℕ → Program → Answer
 verdict_answer bytes p = answer (verdict_status (verdict_of p)) (verdict_text bytes p (verdict_of p))
+
+-- 0 where every thread has returned, 7 where the moves are spent, 8 where a thread has halted, 9 at a limit
+abbrev pub end_status : End → ℕ
+end_status ends.Finished = 0
+end_status ends.Spent = 7
+end_status (ends.Halted t) = 8
+end_status (ends.Limit kind) = 9
+
+-- the answer on a run
+abbrev pub run_answer : Graph → End → Answer
+run_answer g end = answer (end_status end) (execution_text g end)
 
 -- the answer where no program was read; want of memory has none
 abbrev pub refusal : Refused → Option Answer
@@ -94,6 +110,18 @@ pub data IsChecked (r : Reading) (a : Answer) : Type 0 where
   judged : (bytes : List ℕ) (p : Program) → HasFile r.content r.name bytes → ReadsAs bytes p → IsOnly bytes p → a ≡ verdict_answer bytes p → IsChecked r a
   refused : (fault : Refused) → HasCause r fault → refusal fault ≡ Some a → IsChecked r a
 
+-- the answer of `run` on the program that these bytes are: the verdict of the rules where it fails, else one run
+pub data IsRunAnswer (bytes : List ℕ) (p : Program) (steps : ℕ) (a : Answer) : Type 0 where
+  fails : verdict_status (verdict_of p) ≡ 1 → a ≡ verdict_answer bytes p → IsRunAnswer bytes p steps a
+  runs : verdict_status (verdict_of p) ≡ 0 → (g : Graph) (end : End) → IsRunOf p steps g end → a ≡ run_answer g end
+      → IsRunAnswer bytes p steps a
+
+-- an answer of `run`: that on the one program that the file is, or a refusal with its cause
+pub data IsRan (r : Reading) (steps : ℕ) (a : Answer) : Type 0 where
+  has_program : (bytes : List ℕ) (p : Program) → HasFile r.content r.name bytes → ReadsAs bytes p → IsOnly bytes p
+      → IsRunAnswer bytes p steps a → IsRan r steps a
+  has_none : (fault : Refused) → HasCause r fault → refusal fault ≡ Some a → IsRan r steps a
+
 -- a push failed: the sink's count of faults rose, and a first part of the text was appended
 pub record IsCut (faults_before faults_after : ℕ) (before after : Option (List ℕ)) (text : List ℕ) : Type 0 where
   pub rose : Rose faults_before faults_after
@@ -118,12 +146,13 @@ pub data IsSaid (IsAnswer : Answer → Type 0) (w : Writing) (result : Status) :
   written : (a : Answer) → IsAnswer a → IsWritten a w result → IsSaid IsAnswer w result
   no_memory : result ≡ status 6 → w.after ≡ w.before → w.faults_after ≡ w.faults_before → IsSaid IsAnswer w result
 
--- the file that the words ask to check: they are the program's name, `check` and the file's name
-abbrev pub checked_name : List (List ℕ) → Option (List ℕ)
-checked_name (program ∷ action ∷ name ∷ []) = if bytes_eq action (codes "check") then Some name else None
-checked_name _ = None
+-- the file that the words name for an action: they are the program's name, the action and the file's name
+abbrev pub named : List ℕ → List (List ℕ) → Option (List ℕ)
+named wanted (program ∷ action ∷ name ∷ []) = if bytes_eq action wanted then Some name else None
+named wanted _ = None
 
--- the answer to words: that of `check`, or the usage
-abbrev pub IsAnswered : Option (List ℕ) → (List ℕ → Reading) → Answer → Type 0
-IsAnswered None reading a = a ≡ answer 2 usage
-IsAnswered (Some name) reading a = IsChecked (reading name) a
+-- the answer to words: that of `check` or of `run`, by the file that they name for it, or the usage
+abbrev pub IsAnswered : (check run : Option (List ℕ)) → (List ℕ → Reading) → Answer → Type 0
+IsAnswered (Some name) other reading a = IsChecked (reading name) a
+IsAnswered None (Some name) reading a = IsRan (reading name) 100000 a
+IsAnswered None None reading a = a ≡ answer 2 usage

@@ -1,19 +1,28 @@
 //! The commands of the program, and the top call that chooses one by the words.
-ghost use Rattle.std.specs.Prelude.{◌≡◌, ◌≤◌, length, map, option_map, IfOk, IsTrue};
+ghost use Rattle.std.specs.Prelude.{◌≡◌, ◌≤◌, codes, length, map, option_map, IfOk, IsTrue};
 ghost use Rattle.fsl_core.specs.Straight.{is_straight};
-ghost use Rattle.fslpp.specs.Answers.{IsAnswered, IsChecked, IsSaid, answer, checked_name, refusal, verdict_answer, verdict_status};
+ghost use Rattle.fslpp.specs.Answers.{IsAnswered, IsChecked, IsSaid, answer, named, refusal, verdict_answer, verdict_status};
 ghost use Rattle.fslpp.specs.Texts.{usage};
 
 use crate::answer::{Answer, say};
 use crate::loading::{Loaded, read_program};
 use crate::refused::Refused;
+use crate::run::run_cmd;
 use crate::status::Status;
 use crate::texts::{READ_FAULT, REFUSED_FORM, REFUSED_SIZE, USAGE, verdict_text};
 use fsl_base::{Gate, Shelf, Sink, Text};
 use fsl_core::Verdict;
+use fsl_run::RunWords;
 use fsl_sound::judge;
 use std::alloc::{AllocError, Global};
 use std::thread::Threads;
+
+/// How a program is run, as long as no word says it.
+const RUN_WORDS: RunWords = RunWords {
+    workers: 1,
+    seed: None,
+    steps: 100000,
+};
 
 /// An answer with a fixed text.
 fn fixed(alloc: Global, status: u8, text: &str) -> Result<Answer, AllocError>
@@ -26,7 +35,7 @@ fn fixed(alloc: Global, status: u8, text: &str) -> Result<Answer, AllocError>
 }
 
 /// The answer where no program was read.
-fn refused(alloc: Global, fault: Refused) -> Result<Answer, AllocError>
+pub(crate) fn refused(alloc: Global, fault: Refused) -> Result<Answer, AllocError>
     ensures { IfOk result (λ a. refusal fault ≡ Some a) }
 {
     match fault {
@@ -38,7 +47,7 @@ fn refused(alloc: Global, fault: Refused) -> Result<Answer, AllocError>
 }
 
 /// The status of a verdict.
-fn verdict_status(v: &Verdict) -> u8
+pub(crate) fn verdict_status(v: &Verdict) -> u8
     ensures { result ≡ verdict_status v.now }
 {
     match v {
@@ -109,12 +118,12 @@ pub fn check_cmd<R: Threads + Sync, H: Shelf, K: Sink, G: Gate>(
     }
 }
 
-/// The name of the file that the words ask to check.
-fn checked_name<'a>(words: &'a [&'a str]) -> Option<&'a str>
-    ensures { option_map (λ name. name.now) result ≡ checked_name (map (λ word. word.now) words.now) }
+/// The name of the file that the words name for an action.
+fn named<'a>(words: &'a [&'a str], wanted: &str) -> Option<&'a str>
+    ensures { option_map (λ name. name.now) result ≡ named wanted.now (map (λ word. word.now) words.now) }
 {
     match words {
-        [_, action, name] if *action == "check" => Some(name),
+        [_, action, name] if *action == wanted => Some(name),
         _ => None,
     }
 }
@@ -129,8 +138,8 @@ fn usage_cmd<K: Sink>(alloc: Global, sink: &mut K) -> Status
     }
 }
 
-/// Runs the program on its words: its name, an action and what the action takes. One worker judges, as long as no
-/// word says how many.
+/// Runs the program on its words: its name, an action and what the action takes. One worker judges and at most
+/// 100000 moves are made, as long as no word says how many.
 pub fn fslpp<'a, R: Threads + Sync, H: Shelf, K: Sink, G: Gate>(
     rt: &R,
     alloc: Global,
@@ -139,10 +148,13 @@ pub fn fslpp<'a, R: Threads + Sync, H: Shelf, K: Sink, G: Gate>(
     sink: &mut K,
     gate: &G,
 ) -> Status
-    ensures { IsSaid (IsAnswered (checked_name (map (λ word. word.now) words.now)) (λ name. record { content = H.content shelf.old; name = name; faults_before = H.faults shelf.old; faults_after = H.faults shelf.new; given_before = H.given shelf.old; given_after = H.given shelf.new })) (record { faults_before = K.faults sink.old; faults_after = K.faults sink.new; before = K.written sink.old; after = K.written sink.new }) result }
+    ensures { IsSaid (IsAnswered (named (codes "check") (map (λ word. word.now) words.now)) (named (codes "run") (map (λ word. word.now) words.now)) (λ name. record { content = H.content shelf.old; name = name; faults_before = H.faults shelf.old; faults_after = H.faults shelf.new; given_before = H.given shelf.old; given_after = H.given shelf.new })) (record { faults_before = K.faults sink.old; faults_after = K.faults sink.new; before = K.written sink.old; after = K.written sink.new }) result }
 {
-    match checked_name(words) {
-        Some(name) => check_cmd(rt, alloc, name, 1, shelf, sink, gate),
+    if let Some(name) = named(words, "check") {
+        return check_cmd(rt, alloc, name, 1, shelf, sink, gate);
+    }
+    match named(words, "run") {
+        Some(name) => run_cmd(rt, alloc, name, RUN_WORDS, shelf, sink, gate),
         None => usage_cmd(alloc, sink),
     }
 }

@@ -1,5 +1,7 @@
 //! Whole runs over a shelf and a sink in memory: what no clause says is that memory is found, and which bytes
 //! are which program.
+mod runs;
+
 use crate::commands::{check_cmd, fslpp};
 use crate::status::Status;
 use fsl_base::{Cut, List, MemShelf, MemSink, Named, OpenGate, Text};
@@ -31,7 +33,7 @@ fn run<R: Threads + Sync>(
         cuts.push(Cut { call: 1, bytes })?;
     }
     let mut shelf = shelf(alloc, bytes, failing)?;
-    let mut sink = MemSink::new(alloc, 128, cuts)?;
+    let mut sink = MemSink::new(alloc, 512, cuts)?;
     let status = fslpp(rt, alloc, words, &mut shelf, &mut sink, &OpenGate);
     Ok((status, sink))
 }

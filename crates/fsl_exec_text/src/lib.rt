@@ -1,0 +1,11 @@
+//! The text of an execution: its end, threads, events and modification orders, line by line.
+#![tactic(auto)]
+
+mod events;
+mod numbers;
+#[cfg(test)]
+mod tests;
+mod text;
+mod words;
+
+pub use text::write;

@@ -1,0 +1,4 @@
+pub mod Causes
+pub mod Going
+pub mod Quiet
+pub mod Standing
