@@ -118,3 +118,7 @@ piece_cut text utf8 some =
 -- which piece it is where it is no gap and no number
 pub fourth_way : {A : Type 0} (x y z : Bool) (a b c d : A) → x ≡ false → y ≡ false → z ≡ false → cond x a (cond y b (cond z c d)) ≡ d
 fourth_way x y z a b c d ex ey ez = rw (ex, ey, ez) refl
+
+-- and where it is a number
+pub third_way : {A : Type 0} (x y z : Bool) (a b c d : A) → x ≡ false → y ≡ false → z ≡ true → cond x a (cond y b (cond z c d)) ≡ c
+third_way x y z a b c d ex ey ez = rw (ex, ey, ez) refl
