@@ -1,12 +1,13 @@
 -- A token's text with a space or LF behind it is cut off as that token.
 use Rattle.std.proofs.Common.{◌≡◌, ℕ, zero, suc, ◌+◌, ◌-◌, ◌<◌, ◌≤◌, ◌⊎◌, inl, inr, ⊎_elim, Bool, true, false, cond, Option, Some, None, List, [], ◌∷◌, ◌++◌, length, take, drop, get_or, refl, sym, ap, ◌∙◌, subst, arith, nat_eq, nat_lt, nat_le, ◌&&◌, ◌||◌, ◌==◌, not, length-append}
 use Rattle.std.specs.Prelude.{Result, Ok, Err}
-use Rattle.std.proofs.lemmas.Bool.{and_parts, and_right, cases_lt, true≢false, lt-ltb, lt-leb, le-leb, le-ltb, leb-true, ltb-true, ne_eqb, eqb-true, false≢true}
+use Rattle.std.proofs.lemmas.Bool.{and_parts, and_right, cases_lt, true≢false, lt-ltb, lt-leb, le-leb, le-ltb, leb-true, ltb-true, ne_eqb, eqb-true, eqb-false, or_cases, not-true, false≢true}
 use Rattle.std.proofs.lemmas.List.Sums.{take_while-cons}
 use Rattle.std.proofs.lemmas.List.{get_or_append_left}
-use Rattle.std.proofs.lemmas.Str.{chars-append, chars-IsAscii, encodes_same, encodes-chars, encode_ascii, char_from_byte, IsUtf8-from_ascii}
+use Rattle.std.proofs.lemmas.Str.{chars-append, chars-nil, chars-IsAscii, encodes-IsAscii, encodes_same, encodes-chars, encode_ascii, char_from_byte, IsUtf8-nil, IsUtf8-from_ascii}
 use Rattle.std.proofs.Math.Seq.{drop-append_seam}
 use Rattle.std.specs.Char.{is_ascii_digit, is_ascii_alphabetic, encode_utf8}
+use Rattle.std.specs.Int.{is_in_range}
 use Rattle.std.specs.List.{take_while, list_all}
 use Rattle.std.specs.Option.{unwrap_or}
 use Rattle.std.specs.Str.{IsUtf8, IsAscii, chars, encode_utf8_all}
@@ -20,7 +21,7 @@ use Rattle.fsl_token.specs.declared.piece.Piece.{Piece}
 use Rattle.fsl_token.specs.Words.{fixed_text, fixed_len, symbol_kind, word_kind}
 use Rattle.fsl_token.specs.Tokens.{is_blank, begins_comment, leading_digits, number_piece, starts_name, name_chars, leading_name, name_piece, symbol_piece, first_piece, cons_token, tokens_from}
 use Rattle.fsl_token.specs.Reading.{IsFixed, IsName, IsNumber, IsTextOf}
-use Rattle.fsl_token.proofs.Pieces.{third_way, fourth_way}
+use Rattle.fsl_token.proofs.Pieces.{first_way, third_way, fourth_way}
 use Rattle.fsl_token.proofs.Lexing.{tokens_step}
 
 -- a space or LF
@@ -216,3 +217,135 @@ sorted TokenKind.Semicolon = inr (inl (refl, (λ rest. refl), (λ rest. refl)))
 sorted TokenKind.Name = inr (inr refl)
 sorted TokenKind.Number = inr (inr refl)
 sorted word = inl (refl, refl)
+
+at_most : (c low top : ℕ) → is_in_range low top c ≡ true → c ≤ top
+at_most c low top within = leb-true c top (and_parts (nat_le low c) (nat_le c top) within).1
+
+letter_small : (c : ℕ) → is_letter c ≡ true → c < 128
+unfolding is_letter
+letter_small c letter =
+    let upper = λ (h : is_in_range 65 90 c ≡ true). let le = at_most c 65 90 h in let less : c < 128 = omega arith in less in
+    let lower = λ (h : is_in_range 97 122 c ≡ true). let le = at_most c 97 122 h in let less : c < 128 = omega arith in less in
+    let mark = λ (h : nat_eq c 95 ≡ true). let same = eqb-true c 95 h in let less : c < 128 = omega arith in less in
+    ⊎_elim (λ range. ⊎_elim upper lower (or_cases (is_in_range 65 90 c) (is_in_range 97 122 c) range)) mark (or_cases (is_ascii_alphabetic c) (nat_eq c 95) letter)
+
+starts_letter : (c : ℕ) → is_letter c ≡ true → starts_name c ≡ true
+unfolding is_letter
+starts_letter c letter = ap (λ x. x || c == 95) (is_xid_start-ascii c (letter_small c letter)) ∙ letter
+
+one_more : (w x y z : Bool) → ((x || y) || z) ≡ true → (((w || x) || y) || z) ≡ true
+one_more true x y z some = refl
+one_more false x y z some = some
+
+letter_on : (c : ℕ) → is_letter c ≡ true → is_xid_continue c ≡ true
+unfolding is_letter
+letter_on c letter = is_xid_continue-ascii c (letter_small c letter) ∙ one_more (is_ascii_digit c) _ _ _ letter
+
+letters_ascii : (text : List ℕ) → list_all is_letter text ≡ true → IsAscii text
+letters_ascii [] all i = omega arith
+letters_ascii (c ∷ cs) all zero = letter_small c (and_parts _ _ all).0
+letters_ascii (c ∷ cs) all (suc i) = letters_ascii cs (and_parts _ _ all).1 i
+
+letters_kept : (cs : List ℕ) → list_all is_letter cs ≡ true → take_while is_xid_continue cs ≡ cs
+letters_kept [] all = refl
+letters_kept (c ∷ cs) all =
+    let parts = and_parts _ _ all in
+    take_while-cons is_xid_continue c cs ∙ ap (λ x. cond x (c ∷ take_while is_xid_continue cs) []) (letter_on c parts.0) ∙ ap (λ l. c ∷ l) (letters_kept cs parts.1)
+
+letters_name : (cs : List ℕ) → list_all is_letter cs ≡ true → name_chars cs ≡ cs
+letters_name [] all = refl
+letters_name (c ∷ cs) all =
+    let parts = and_parts _ _ all in
+    ap (λ x. cond x (c ∷ take_while is_xid_continue cs) []) (starts_letter c parts.0) ∙ ap (λ l. c ∷ l) (letters_kept cs parts.1)
+
+letters_whole : (text : List ℕ) → list_all is_letter text ≡ true → leading_name text ≡ text
+letters_whole text all =
+    let ascii = letters_ascii text all in
+    ap (λ cs. encode_utf8_all (name_chars cs)) (chars-IsAscii text ascii) ∙ ap encode_utf8_all (letters_name text all) ∙ encodes-IsAscii text ascii
+
+word_first : (kind : TokenKind) (rest : List ℕ) (b : ℕ) → IsWord kind → b < 48 → first_piece (text_of kind ++ b ∷ rest) ≡ Piece.Token kind (length (text_of kind)) 0
+unfolding is_word
+word_first kind rest b word small =
+    let parts = and_parts _ _ word.0 in
+    let more = and_parts _ _ parts.1 in
+    let text = text_of kind in
+    name_first text rest b (letters_whole text more.1) (IsUtf8-from_ascii text (letters_ascii text more.1)) (ltb-true 0 (length text) parts.0) small
+    ∙ word_piece text (leb-true (length text) 64 more.0) ∙ ap (λ k. Piece.Token k (length text) 0) word.1
+
+no_name : (c : ℕ) (cs : List ℕ) → c < 128 → starts_name c ≡ false → leading_name (c ∷ cs) ≡ []
+no_name c cs small none =
+    ap (λ l. encode_utf8_all (name_chars l)) (chars_more [] cs c IsUtf8-nil small ∙ ap (λ l. l ++ c ∷ chars cs) chars-nil)
+    ∙ ap (λ x. encode_utf8_all (cond x (c ∷ take_while is_xid_continue (chars cs)) [])) none
+
+mark_no_name : (c : ℕ) → c < 128 → is_letter c ≡ false → starts_name c ≡ false
+unfolding is_letter
+mark_no_name c small none = ap (λ x. x || c == 95) (is_xid_start-ascii c small) ∙ none
+
+symbol_first : (text rest : List ℕ) → is_symbol text ≡ true → first_piece (text ++ rest) ≡ symbol_piece (symbol_kind (text ++ rest))
+unfolding is_symbol is_mark
+symbol_first [] rest symbol = absurd (false≢true symbol)
+symbol_first (c ∷ cs) rest symbol =
+    let mark = (and_parts _ _ (and_parts _ _ symbol).1).0 in
+    let small = ltb-true c 128 (and_parts _ _ mark).0 in
+    let blank = and_parts _ _ (and_parts _ _ mark).1 in
+    let slash = and_parts _ _ blank.1 in
+    let digit = and_parts _ _ slash.1 in
+    let no_slash : nat_eq c 47 ≡ false = not-true _ slash.0 in
+    let none = no_name c (cs ++ rest) small (mark_no_name c small (not-true _ digit.1)) in
+    fourth_way _ _ _ _ _ _ _ (not-true _ blank.0) (no_comment (c ∷ (cs ++ rest)) (λ same. absurd (eqb-false c 47 no_slash (sym same)))) (not-true _ digit.0)
+    ∙ ap (λ (n : List ℕ). cond (nat_lt 0 (length n)) (name_piece n) (symbol_piece (symbol_kind (c ∷ (cs ++ rest))))) none
+
+-- what begins a reserved word or a symbol with a space or LF behind it
+fixed_first : (kind : TokenKind) (text rest : List ℕ) (b : ℕ) → IsSpace b → fixed_text kind ≡ Some text → first_piece (text ++ b ∷ rest) ≡ Piece.Token kind (length text) 0
+fixed_first kind text rest b space is =
+    let same : text_of kind ≡ text = ap (λ o. unwrap_or o []) is in
+    let symbol_found = λ (s : IsSymbol kind). ⊎_elim (λ (e : b ≡ 32). ap (λ c. symbol_kind (text_of kind ++ c ∷ rest)) e ∙ s.1 rest) (λ (e : b ≡ 10). ap (λ c. symbol_kind (text_of kind ++ c ∷ rest)) e ∙ s.2 rest) space in
+    subst (λ (t : List ℕ). first_piece (t ++ b ∷ rest) ≡ Piece.Token kind (length t) 0) same
+    (⊎_elim (λ (w : IsWord kind). let small = space_small b space in word_first kind rest b w (omega arith))
+    (λ other. ⊎_elim (λ (s : IsSymbol kind). symbol_first (text_of kind) (b ∷ rest) s.0 ∙ ap symbol_piece (symbol_found s)) (λ (none : fixed_text kind ≡ None). absurd cc) other)
+    (sorted kind))
+
+-- a token's text with a space or LF behind it is cut off as that token
+pub cut_off : (kind : TokenKind) (number : ℕ) (text rest : List ℕ) (b : ℕ) → IsSpace b → IsTextOf kind number text → 0 < length text → first_piece (text ++ b ∷ rest) ≡ Piece.Token kind (length text) number
+cut_off kind number text rest b space is some =
+    let small = space_small b space in
+    ⊎_elim (λ (f : IsFixed kind number text). fixed_first kind text rest b space f.0 ∙ ap (Piece.Token kind (length text)) (sym f.1))
+    (λ other. ⊎_elim (λ (n : IsName kind number text).
+        let alike : Piece.Token (word_kind text) (length text) 0 ≡ Piece.Token kind (length text) number = cc in
+        name_first text rest b n.2 n.5 some (omega arith) ∙ word_piece text n.3 ∙ alike)
+    (λ (n : IsNumber kind number text).
+        let fits : nat_le (digits_value 10 text) 9223372036854775808 ≡ true = le-leb _ _ (omega (arith, n.2, n.3)) in
+        let alike : Piece.Token TokenKind.Number (length text) (digits_value 10 text) ≡ Piece.Token kind (length text) number = cc in
+        let below : nat_le 48 b ≡ false = lt-leb 48 b (omega arith) in
+        number_first text rest b n.1 some (ap (λ x. x && nat_le b 57) below) ∙ ap (λ x. cond x (Piece.Token TokenKind.Number (length text) (digits_value 10 text)) Piece.LongNumber) fits ∙ alike) other) is
+
+gap_first : (b : ℕ) (rest : List ℕ) → is_blank b ≡ true → first_piece (b ∷ rest) ≡ Piece.Gap 1
+gap_first b rest blank = first_way _ _ _ blank
+
+-- so it is the first token, and those of the bytes behind them follow
+pub token_apart : (at : ℕ) (kind : TokenKind) (number : ℕ) (text rest : List ℕ) (b : ℕ) → IsSpace b → IsTextOf kind number text → 0 < length text
+    → tokens_from at 0 (text ++ b ∷ rest) ≡ cons_token (record { kind = kind; span = record { from = at; to = at + length text }; number = number }) (tokens_from (at + length text + 1) 0 rest)
+token_apart at kind number text rest b space is some =
+    let long = length-append text (b ∷ rest) in
+    let token = tokens_step at (text ++ b ∷ rest) (Piece.Token kind (length text) number) (cut_off kind number text rest b space is some) some (omega arith) in
+    let behind = ap (tokens_from (at + length text) 0) (drop-append_seam text (b ∷ rest)) in
+    let blank : is_blank b ≡ true = ⊎_elim (λ (e : b ≡ 32). ap is_blank e) (λ (e : b ≡ 10). ap is_blank e) space in
+    let gap = tokens_step (at + length text) (b ∷ rest) (Piece.Gap 1) (gap_first b rest blank) (omega arith) (omega arith) in
+    token ∙ ap (cons_token (record { kind = kind; span = record { from = at; to = at + length text }; number = number })) (behind ∙ gap)
+
+digits_ascii : (ds : List ℕ) → leading_digits ds ≡ ds → IsAscii ds
+digits_ascii [] whole i = omega arith
+digits_ascii (d ∷ ds) whole zero = let parts = kept_parts (is_ascii_digit d) d (leading_digits ds) ds (sym (take_while-cons is_ascii_digit d ds) ∙ whole) in let le = at_most d 48 57 parts.0 in omega arith
+digits_ascii (d ∷ ds) whole (suc i) = digits_ascii ds (kept_parts (is_ascii_digit d) d (leading_digits ds) ds (sym (take_while-cons is_ascii_digit d ds) ∙ whole)).1 i
+
+fixed_utf8 : (kind : TokenKind) (text : List ℕ) → fixed_text kind ≡ Some text → IsUtf8 text
+unfolding is_word is_symbol
+fixed_utf8 kind text is =
+    let same : text_of kind ≡ text = ap (λ o. unwrap_or o []) is in
+    subst IsUtf8 same (⊎_elim (λ (w : IsWord kind). IsUtf8-from_ascii (text_of kind) (letters_ascii (text_of kind) (and_parts _ _ (and_parts _ _ w.0).1).1))
+    (λ other. ⊎_elim (λ (s : IsSymbol kind). IsUtf8-from_ascii (text_of kind) (ascii_all (text_of kind) (and_parts _ _ (and_parts _ _ s.0).1).1)) (λ (none : fixed_text kind ≡ None). absurd cc) other) (sorted kind))
+
+-- the text of a token is UTF-8
+pub text_utf8 : (kind : TokenKind) (number : ℕ) (text : List ℕ) → IsTextOf kind number text → IsUtf8 text
+text_utf8 kind number text is = ⊎_elim (λ (f : IsFixed kind number text). fixed_utf8 kind text f.0)
+    (λ other. ⊎_elim (λ (n : IsName kind number text). n.5) (λ (n : IsNumber kind number text). IsUtf8-from_ascii text (digits_ascii text n.1)) other) is
