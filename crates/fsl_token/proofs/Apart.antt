@@ -80,7 +80,7 @@ ascii_all [] all i = omega arith
 ascii_all (b ∷ bs) all zero = ltb-true b 128 (and_parts _ _ all).0
 ascii_all (b ∷ bs) all (suc i) = ascii_all bs (and_parts _ _ all).1 i
 
-alone : (b : ℕ) → b < 128 → IsAscii (b ∷ [])
+pub alone : (b : ℕ) → b < 128 → IsAscii (b ∷ [])
 alone b small zero = small
 alone b small (suc i) = omega arith
 
