@@ -1,24 +1,21 @@
 -- A token's text with a space or LF behind it is cut off as that token.
-use Rattle.std.proofs.Common.{◌≡◌, ℕ, zero, suc, ◌+◌, ◌-◌, ◌<◌, ◌≤◌, ◌⊎◌, inl, inr, ⊎_elim, Bool, true, false, cond, Option, Some, None, List, [], ◌∷◌, ◌++◌, length, take, drop, get_or, refl, sym, ap, ◌∙◌, subst, arith, nat_eq, nat_lt, nat_le, ◌&&◌, ◌||◌, ◌==◌, not, length-append}
-use Rattle.std.specs.Prelude.{Result, Ok, Err}
-use Rattle.std.proofs.lemmas.Bool.{and_parts, and_right, cases_lt, true≢false, lt-ltb, lt-leb, le-leb, le-ltb, leb-true, ltb-true, ne_eqb, eqb-true, eqb-false, or_cases, not-true, false≢true}
+use Rattle.std.proofs.Common.{◌≡◌, ℕ, zero, suc, ◌+◌, ◌<◌, ◌≤◌, ◌⊎◌, inl, inr, ⊎_elim, Bool, true, false, cond, Some, None, List, [], ◌∷◌, ◌++◌, length, get_or, refl, sym, ap, ◌∙◌, subst, arith, nat_eq, nat_lt, nat_le, ◌&&◌, ◌||◌, ◌==◌, not, length-append}
+use Rattle.std.proofs.lemmas.Bool.{and_parts, and_right, cases_lt, true≢false, lt-ltb, lt-leb, le-leb, leb-true, ltb-true, ne_eqb, eqb-true, eqb-false, or_cases, not-true, false≢true}
 use Rattle.std.proofs.lemmas.List.Sums.{take_while-cons}
 use Rattle.std.proofs.lemmas.List.{get_or_append_left}
-use Rattle.std.proofs.lemmas.Str.{chars-append, chars-nil, chars-IsAscii, encodes-IsAscii, encodes_same, encodes-chars, encode_ascii, char_from_byte, IsUtf8-nil, IsUtf8-from_ascii}
+use Rattle.std.proofs.lemmas.Str.{chars-append, chars-nil, chars-IsAscii, encodes-IsAscii, encodes_same, encodes-chars, char_from_byte, IsUtf8-nil, IsUtf8-from_ascii}
 use Rattle.std.proofs.Math.Seq.{drop-append_seam}
-use Rattle.std.specs.Char.{is_ascii_digit, is_ascii_alphabetic, encode_utf8}
+use Rattle.std.specs.Char.{is_ascii_digit, is_ascii_alphabetic}
 use Rattle.std.specs.Int.{is_in_range}
 use Rattle.std.specs.List.{take_while, list_all}
 use Rattle.std.specs.Option.{unwrap_or}
 use Rattle.std.specs.Str.{IsUtf8, IsAscii, chars, encode_utf8_all}
 use Rattle.std.specs.Str.Parse.{digits_value}
-use Rattle.unicode_ident.specs.Ident.{is_xid_start, is_xid_continue}
+use Rattle.unicode_ident.specs.Ident.{is_xid_continue}
 use Rattle.unicode_ident.proofs.IdentLemmas.{is_xid_start-ascii, is_xid_continue-ascii}
-use Rattle.fsl_token.specs.declared.kind.Token.{Token}
 use Rattle.fsl_token.specs.declared.kind.TokenKind.{TokenKind}
-use Rattle.fsl_token.specs.declared.fault.LexFault.{LexFault}
 use Rattle.fsl_token.specs.declared.piece.Piece.{Piece}
-use Rattle.fsl_token.specs.Words.{fixed_text, fixed_len, symbol_kind, word_kind}
+use Rattle.fsl_token.specs.Words.{fixed_text, symbol_kind, word_kind}
 use Rattle.fsl_token.specs.Tokens.{is_blank, begins_comment, leading_digits, number_piece, starts_name, name_chars, leading_name, name_piece, symbol_piece, first_piece, cons_token, tokens_from}
 use Rattle.fsl_token.specs.Reading.{IsFixed, IsName, IsNumber, IsTextOf}
 use Rattle.fsl_token.proofs.Pieces.{first_way, third_way, fourth_way}
@@ -108,9 +105,9 @@ high_of (c ∷ cs) text e all some =
     let begins = (kept_parts (starts_name c) c (take_while is_xid_continue cs) cs all).0 in
     ⊎_elim
     (λ low.
-        let same : c ≡ get_or text 0 0 = char_from_byte text (encode_utf8_all cs) c (sym e) (omega arith) some in
-        let none : starts_name c ≡ false = no_letter c (omega arith) in
-        absurd (true≢false (sym begins ∙ none)))
+    let same : c ≡ get_or text 0 0 = char_from_byte text (encode_utf8_all cs) c (sym e) (omega arith) some in
+    let none : starts_name c ≡ false = no_letter c (omega arith) in
+    absurd (true≢false (sym begins ∙ none)))
     (λ high. high) (cases_lt (get_or text 0 0) 65)
 
 high : (text : List ℕ) → leading_name text ≡ text → IsUtf8 text → 0 < length text → 65 ≤ get_or text 0 0
@@ -311,13 +308,13 @@ cut_off kind number text rest b space is some =
     let small = space_small b space in
     ⊎_elim (λ (f : IsFixed kind number text). fixed_first kind text rest b space f.0 ∙ ap (Piece.Token kind (length text)) (sym f.1))
     (λ other. ⊎_elim (λ (n : IsName kind number text).
-        let alike : Piece.Token (word_kind text) (length text) 0 ≡ Piece.Token kind (length text) number = cc in
-        name_first text rest b n.2 n.5 some (omega arith) ∙ word_piece text n.3 ∙ alike)
+    let alike : Piece.Token (word_kind text) (length text) 0 ≡ Piece.Token kind (length text) number = cc in
+    name_first text rest b n.2 n.5 some (omega arith) ∙ word_piece text n.3 ∙ alike)
     (λ (n : IsNumber kind number text).
-        let fits : nat_le (digits_value 10 text) 9223372036854775808 ≡ true = le-leb _ _ (omega (arith, n.2, n.3)) in
-        let alike : Piece.Token TokenKind.Number (length text) (digits_value 10 text) ≡ Piece.Token kind (length text) number = cc in
-        let below : nat_le 48 b ≡ false = lt-leb 48 b (omega arith) in
-        number_first text rest b n.1 some (ap (λ x. x && nat_le b 57) below) ∙ ap (λ x. cond x (Piece.Token TokenKind.Number (length text) (digits_value 10 text)) Piece.LongNumber) fits ∙ alike) other) is
+    let fits : nat_le (digits_value 10 text) 9223372036854775808 ≡ true = le-leb _ _ (omega (arith, n.2, n.3)) in
+    let alike : Piece.Token TokenKind.Number (length text) (digits_value 10 text) ≡ Piece.Token kind (length text) number = cc in
+    let below : nat_le 48 b ≡ false = lt-leb 48 b (omega arith) in
+    number_first text rest b n.1 some (ap (λ x. x && nat_le b 57) below) ∙ ap (λ x. cond x (Piece.Token TokenKind.Number (length text) (digits_value 10 text)) Piece.LongNumber) fits ∙ alike) other) is
 
 gap_first : (b : ℕ) (rest : List ℕ) → is_blank b ≡ true → first_piece (b ∷ rest) ≡ Piece.Gap 1
 gap_first b rest blank = first_way _ _ _ blank

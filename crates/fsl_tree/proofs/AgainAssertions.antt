@@ -30,7 +30,7 @@ pattern_again (patterns.Value value) = made (expression_again value) (λ t. patt
 
 optional_share_again : (s : Option Share) → Again optional_share s
 optional_share_again None = nothing None (λ after. refl)
-optional_share_again (Some s) = made (and_then (token kind.OpenBracket s.open) (and_then (expression_again s.amount) (token kind.CloseBracket s.close))) (λ t. Some (record { open = t.0; amount = t.1.0; close = t.1.1 })) (λ t after. refl)
+optional_share_again (Some s) = made (and_then (token kind.OpenBracket s.open) (and_then (expression_again s.amount) (token kind.CloseBracket s.close))) (λ t. Some (record { «open» = t.0; amount = t.1.0; close = t.1.1 })) (λ t after. refl)
 
 relation_again : (r : Relation) → Again relation r
 relation_again (relations.Compared comparison right) = made (and_then (comparison_again comparison) (expression_again right)) (λ t. relations.Compared t.0 t.1) (λ t after. refl)

@@ -36,16 +36,16 @@ optional_parameters_again None = nothing None (λ after. refl)
 optional_parameters_again (Some p) = made (and_then (parameter_again p.first) (each next_parameter_again p.more)) (λ t. Some (record { first = t.0; more = t.1 })) (λ t after. refl)
 
 part_again : (p : Part) → Again part p
-part_again p = made (and_then (token kind.OpenBrace p.open) (and_then (assertion_again p.assertion) (token kind.CloseBrace p.close))) (λ t. record { open = t.0; assertion = t.1.0; close = t.1.1 }) (λ t after. refl)
+part_again p = made (and_then (token kind.OpenBrace p.open) (and_then (assertion_again p.assertion) (token kind.CloseBrace p.close))) (λ t. record { «open» = t.0; assertion = t.1.0; close = t.1.1 }) (λ t after. refl)
 
 invariant_again : (i : Invariant) → Again invariant i
-invariant_again i = made (and_then (token kind.Inv i.word) (and_then (token kind.Name i.name) (and_then (token kind.OpenParen i.open) (and_then (optional_parameters_again i.parameters) (and_then (token kind.CloseParen i.close) (and_then (token kind.Of i.of) (and_then (token kind.Name i.value) (and_then (part_again i.first) (each part_again i.more))))))))) (λ t. record { word = t.0; name = t.1.0; open = t.1.1.0; parameters = t.1.1.1.0; close = t.1.1.1.1.0; of = t.1.1.1.1.1.0; value = t.1.1.1.1.1.1.0; first = t.1.1.1.1.1.1.1.0; more = t.1.1.1.1.1.1.1.1 }) (λ t after. refl)
+invariant_again i = made (and_then (token kind.Inv i.word) (and_then (token kind.Name i.name) (and_then (token kind.OpenParen i.open) (and_then (optional_parameters_again i.parameters) (and_then (token kind.CloseParen i.close) (and_then (token kind.Of i.of) (and_then (token kind.Name i.value) (and_then (part_again i.first) (each part_again i.more))))))))) (λ t. record { word = t.0; name = t.1.0; «open» = t.1.1.0; parameters = t.1.1.1.0; close = t.1.1.1.1.0; of = t.1.1.1.1.1.0; value = t.1.1.1.1.1.1.0; first = t.1.1.1.1.1.1.1.0; more = t.1.1.1.1.1.1.1.1 }) (λ t after. refl)
 
 predicate_again : (p : Predicate) → Again predicate p
-predicate_again p = made (and_then (token kind.Pred p.word) (and_then (token kind.Name p.name) (and_then (token kind.OpenParen p.open) (and_then (optional_parameters_again p.parameters) (and_then (token kind.CloseParen p.close) (part_again p.body)))))) (λ t. record { word = t.0; name = t.1.0; open = t.1.1.0; parameters = t.1.1.1.0; close = t.1.1.1.1.0; body = t.1.1.1.1.1 }) (λ t after. refl)
+predicate_again p = made (and_then (token kind.Pred p.word) (and_then (token kind.Name p.name) (and_then (token kind.OpenParen p.open) (and_then (optional_parameters_again p.parameters) (and_then (token kind.CloseParen p.close) (part_again p.body)))))) (λ t. record { word = t.0; name = t.1.0; «open» = t.1.1.0; parameters = t.1.1.1.0; close = t.1.1.1.1.0; body = t.1.1.1.1.1 }) (λ t after. refl)
 
 procedure_again : (p : Procedure) → Again procedure p
-procedure_again p = made (and_then (token kind.Proc p.word) (and_then (token kind.Name p.name) (and_then (token kind.OpenParen p.open) (and_then (optional_parameters_again p.parameters) (and_then (token kind.CloseParen p.close) (and_then (optional_clause_again kind.Requires p.requires_clause) (and_then (optional_clause_again kind.Ensures p.ensures_clause) (block_again p.body)))))))) (λ t. record { word = t.0; name = t.1.0; open = t.1.1.0; parameters = t.1.1.1.0; close = t.1.1.1.1.0; requires_clause = t.1.1.1.1.1.0; ensures_clause = t.1.1.1.1.1.1.0; body = t.1.1.1.1.1.1.1 }) (λ t after. refl)
+procedure_again p = made (and_then (token kind.Proc p.word) (and_then (token kind.Name p.name) (and_then (token kind.OpenParen p.open) (and_then (optional_parameters_again p.parameters) (and_then (token kind.CloseParen p.close) (and_then (optional_clause_again kind.Requires p.requires_clause) (and_then (optional_clause_again kind.Ensures p.ensures_clause) (block_again p.body)))))))) (λ t. record { word = t.0; name = t.1.0; «open» = t.1.1.0; parameters = t.1.1.1.0; close = t.1.1.1.1.0; requires_clause = t.1.1.1.1.1.0; ensures_clause = t.1.1.1.1.1.1.0; body = t.1.1.1.1.1.1.1 }) (λ t after. refl)
 
 declaration_again : (d : Declaration) → Again declaration d
 declaration_again (declarations.Invariant x) = made (invariant_again x) (λ t. declarations.Invariant t) (λ t after. refl)

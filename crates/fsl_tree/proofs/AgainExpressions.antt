@@ -121,4 +121,4 @@ optional_arguments_again None = nothing None (λ after. refl)
 optional_arguments_again (Some a) = made (arguments_again a) (λ t. Some t) (λ t after. refl)
 
 pub usage_again : (u : Use) → Again usage u
-usage_again u = made (and_then (token kind.Name u.name) (and_then (token kind.OpenParen u.open) (and_then (optional_arguments_again u.arguments) (token kind.CloseParen u.close)))) (λ t. record { name = t.0; open = t.1.0; arguments = t.1.1.0; close = t.1.1.1 }) (λ t after. refl)
+usage_again u = made (and_then (token kind.Name u.name) (and_then (token kind.OpenParen u.open) (and_then (optional_arguments_again u.arguments) (token kind.CloseParen u.close)))) (λ t. record { name = t.0; «open» = t.1.0; arguments = t.1.1.0; close = t.1.1.1 }) (λ t after. refl)

@@ -58,14 +58,14 @@ step_word_again (step_words.Mint place) = made (token kind.Mint place) (λ t. st
 step_word_again (step_words.Burn place) = made (token kind.Burn place) (λ t. step_words.Burn t) (λ t after. refl)
 
 step_again : (s : Step) → Again step s
-step_again s = made (and_then (step_word_again s.word) (and_then (token kind.OpenParen s.open) (and_then (token kind.Name s.bank) (and_then (token kind.Comma s.comma) (and_then (expression_again s.amount) (token kind.CloseParen s.close)))))) (λ t. record { word = t.0; open = t.1.0; bank = t.1.1.0; comma = t.1.1.1.0; amount = t.1.1.1.1.0; close = t.1.1.1.1.1 }) (λ t after. refl)
+step_again s = made (and_then (step_word_again s.word) (and_then (token kind.OpenParen s.open) (and_then (token kind.Name s.bank) (and_then (token kind.Comma s.comma) (and_then (expression_again s.amount) (token kind.CloseParen s.close)))))) (λ t. record { word = t.0; «open» = t.1.0; bank = t.1.1.0; comma = t.1.1.1.0; amount = t.1.1.1.1.0; close = t.1.1.1.1.1 }) (λ t after. refl)
 
 step_line_again : (l : StepLine) → Again step_line l
 step_line_again l = made (and_then (step_again l.step) (token kind.Semicolon l.semicolon)) (λ t. record { step = t.0; semicolon = t.1 }) (λ t after. refl)
 
 optional_with_again : (w : Option withs.With) → Again optional_with w
 optional_with_again None = nothing None (λ after. refl)
-optional_with_again (Some w) = made (and_then (token kind.With w.word) (and_then (token kind.OpenBrace w.open) (and_then (each step_line_again w.steps) (token kind.CloseBrace w.close)))) (λ t. Some (record { word = t.0; open = t.1.0; steps = t.1.1.0; close = t.1.1.1 })) (λ t after. refl)
+optional_with_again (Some w) = made (and_then (token kind.With w.word) (and_then (token kind.OpenBrace w.open) (and_then (each step_line_again w.steps) (token kind.CloseBrace w.close)))) (λ t. Some (record { word = t.0; «open» = t.1.0; steps = t.1.1.0; close = t.1.1.1 })) (λ t after. refl)
 
 allocation_again : (a : Allocation) → Again allocation a
 allocation_again (allocations.NonAtomic word) = made (token kind.Na word) (λ t. allocations.NonAtomic t) (λ t after. refl)
@@ -82,7 +82,7 @@ right_side_again (right_sides.Update word mode start location comma operand end 
 -- ---- parts of statements
 
 clause_again : (word : TokenKind) (c : Clause) → Again (clause word) c
-clause_again word c = made (and_then (token word c.word) (and_then (token kind.OpenParen c.open) (and_then (assertion_again c.assertion) (token kind.CloseParen c.close)))) (λ t. record { word = t.0; open = t.1.0; assertion = t.1.1.0; close = t.1.1.1 }) (λ t after. refl)
+clause_again word c = made (and_then (token word c.word) (and_then (token kind.OpenParen c.open) (and_then (assertion_again c.assertion) (token kind.CloseParen c.close)))) (λ t. record { word = t.0; «open» = t.1.0; assertion = t.1.1.0; close = t.1.1.1 }) (λ t after. refl)
 
 pub optional_clause_again : (word : TokenKind) (c : Option Clause) → Again (optional_clause word) c
 optional_clause_again word None = nothing None (λ after. refl)
@@ -138,7 +138,7 @@ abbrev bare_block : BlockParts → BlockLayer
 bare_block y = map-Block (With Statement statement) (With Block block) (With Otherwise otherwise) Statement Block Otherwise (λ p. p.0) (λ p. p.0) (λ p. p.0) y
 
 block_parts : (y : BlockParts) → Again block_layer (bare_block y)
-block_parts y = made (and_then (token kind.OpenBrace y.open) (and_then (many y.statements) (token kind.CloseBrace y.close))) (λ t. record { open = t.0; statements = t.1.0; close = t.1.1 }) (λ t after. refl)
+block_parts y = made (and_then (token kind.OpenBrace y.open) (and_then (many y.statements) (token kind.CloseBrace y.close))) (λ t. record { «open» = t.0; statements = t.1.0; close = t.1.1 }) (λ t after. refl)
 
 block_rolled : (x : BlockLayer) (y : BlockParts) → bare_block y ≡ x → Again block (roll-Block x)
 block_rolled x y is = made (subst (Again block_layer) is (block_parts y)) roll-Block block_spells
