@@ -1,6 +1,6 @@
 -- The same of declarations and whole files.
-use Rattle.std.proofs.Common.{ℕ, ◌≡◌, List, [], ◌∷◌, ◌++◌, map, Option, Some, None, refl, sym, ap, ◌∙◌, subst}
-use Rattle.std.specs.Prelude.{Result, Ok, IfOk}
+use Rattle.std.proofs.Common.{ℕ, ◌≡◌, List, [], ◌∷◌, map, Option, Some, None, refl, ap, ◌∙◌, subst}
+use Rattle.std.specs.Prelude.{Ok}
 use Rattle.fsl_base.specs.declared.span.Span.{Span}
 use Rattle.fsl_token.specs.declared.kind.TokenKind.TheVariants as kind
 use Rattle.fsl_tree.specs.declared.declaration.Declaration.{Declaration}
@@ -16,7 +16,7 @@ use Rattle.fsl_tree.specs.declared.file.File.{File}
 use Rattle.fsl_tree.specs.SpelledExpressions.{Tokens, all}
 use Rattle.fsl_tree.specs.Spelling.{optional_word, parameter, next_parameter, optional_parameters, part, invariant, predicate, procedure, declaration, spelling}
 use Rattle.fsl_tree.specs.Printing.{printed, AreHeld, AreAlike, ReadsBack}
-use Rattle.fsl_tree.proofs.Again.{Again, Leads, token, and_then, made, nothing, each}
+use Rattle.fsl_tree.proofs.Again.{Again, token, and_then, made, nothing, each}
 use Rattle.fsl_tree.proofs.AgainAssertions.{assertion_again}
 use Rattle.fsl_tree.proofs.AgainStatements.{optional_clause_again, block_again}
 use Rattle.fsl_tree.proofs.Relexed.{tokens_again}

@@ -1,5 +1,5 @@
 -- The same of expressions, comparisons and uses.
-use Rattle.std.proofs.Common.{◌≡◌, List, ◌∷◌, map, Option, Some, None, refl, subst}
+use Rattle.std.proofs.Common.{◌≡◌, ◌∷◌, Option, Some, None, refl, subst}
 use Rattle.fsl_token.specs.declared.kind.TokenKind.TheVariants as kind
 use Rattle.fsl_tree.specs.declared.expression.Sign.{Sign}
 use Rattle.fsl_tree.specs.declared.expression.Sign.TheVariants as signs

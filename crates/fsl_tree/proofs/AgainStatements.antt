@@ -1,5 +1,5 @@
 -- The same of right sides, statements and blocks.
-use Rattle.std.proofs.Common.{◌≡◌, List, ◌∷◌, map, Option, Some, None, refl, subst}
+use Rattle.std.proofs.Common.{◌≡◌, ◌∷◌, Option, Some, None, refl, subst}
 use Rattle.fsl_token.specs.declared.kind.TokenKind.{TokenKind}
 use Rattle.fsl_token.specs.declared.kind.TokenKind.TheVariants as kind
 use Rattle.fsl_tree.specs.declared.declaration.Clause.{Clause}

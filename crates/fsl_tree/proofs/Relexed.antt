@@ -1,5 +1,5 @@
 -- What is printed is cut into tokens that are alike.
-use Rattle.std.proofs.Common.{ℕ, zero, suc, ◌≡◌, ◌+◌, ◌-◌, ◌<◌, ◌≤◌, ◌^◌, inl, inr, true, cond, List, [], ◌∷◌, ◌++◌, length, take, drop, refl, sym, ap, ◌∙◌, subst, arith, append_assoc, length-append, length-drop, length-take-le, nat_le, ◌&&◌}
+use Rattle.std.proofs.Common.{ℕ, ◌≡◌, ◌+◌, ◌-◌, ◌<◌, ◌≤◌, inl, inr, true, cond, List, [], ◌∷◌, ◌++◌, length, drop, refl, sym, ap, ◌∙◌, arith, append_assoc, length-append, length-drop, length-take-le, nat_le}
 use Rattle.std.specs.Prelude.{Ok}
 use Rattle.std.specs.Char.{is_ascii_digit}
 use Rattle.std.specs.Fmt.{decimal}
@@ -17,7 +17,7 @@ use Rattle.fsl_token.specs.declared.kind.TokenKind.{TokenKind}
 use Rattle.fsl_token.specs.declared.kind.TokenKind.TheVariants as kind
 use Rattle.fsl_token.specs.Words.{fixed_text}
 use Rattle.fsl_token.specs.Reading.{IsName, IsTextOf}
-use Rattle.fsl_token.specs.Tokens.{cons_token, tokens_from, lexed, leading_digits}
+use Rattle.fsl_token.specs.Tokens.{cons_token, tokens_from, lexed}
 use Rattle.fsl_token.proofs.Apart.{alone, IsSpace, token_apart, text_utf8}
 use Rattle.fsl_token.proofs.Lexing.{lexed_text}
 use Rattle.fsl_tree.specs.SpelledExpressions.{Tokens}

@@ -66,7 +66,14 @@ fn tokens_of_a_small_file(rt: HostRuntime) -> Result<(), Fail> {
     assert_eq!(rt; tokens.len(), wanted.len());
     for (token, (kind, from, to)) in tokens.iter().zip(wanted) {
         let span = at(from, to);
-        assert!(rt; *token == Token { kind, span, number: 0 });
+        assert!(rt;
+            *token
+                == Token {
+                    kind,
+                    span,
+                    number: 0
+                }
+        );
     }
     Ok(())
 }
