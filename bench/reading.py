@@ -59,7 +59,7 @@ def text_of(size):
 
 
 def run(program, path):
-    """User seconds and the greatest resident set in bytes of one run, which must get past the parser or be refused."""
+    """User seconds, the greatest resident set in bytes, and the answer of one run, which is a verdict or a refusal."""
     child = subprocess.Popen([program, "check", path], stdout=subprocess.PIPE)
     out = child.stdout.read()
     _, status, usage = os.wait4(child.pid, 0)
