@@ -1,8 +1,10 @@
 //! Whole programs: each is read, each of its declarations cut short is not, and what is printed of it reads back.
-use crate::tests::{Outcome, length, reading, tokens_of};
+ghost use Rattle.fsl_token.specs.Reading.{AreTokensOf};
+
+use crate::tests::{Outcome, reading, tokens_of};
 use crate::{ParseFault, parse};
 use fsl_base::{List, Span, Text};
-use fsl_token::Token;
+use fsl_token::{Token, lex};
 use fsl_tree::{laws, print};
 use std::alloc::{AllocError, Global};
 
@@ -37,10 +39,24 @@ fn misses_more(alloc: Global, tokens: &List<Token>) -> bool {
 
 /// The text that is printed of the tree of a text; `None` where it has none, or memory lacked.
 fn printed(alloc: Global, text: &str) -> Option<Text> {
-    let tokens = tokens_of(alloc, text)?;
+    let bytes = text.as_bytes();
+    if bytes.len() > 5000 {
+        return None;
+    }
+    match lex(alloc, bytes) {
+        Ok(tokens) => printed_tokens(alloc, bytes, &tokens),
+        Err(_) => None,
+    }
+}
+
+/// The text that is printed of the tree of the tokens that the bytes were cut into.
+#[tactic(auto, using(crate::proofs::Holding::held))]
+fn printed_tokens(alloc: Global, bytes: &[u8], tokens: &List<Token>) -> Option<Text>
+    requires { AreTokensOf 0 bytes.now tokens.now }
+{
     laws::tokens_are_held();
-    match parse(alloc, &tokens, length(text)) {
-        Ok(file) => print(alloc, text.as_bytes(), &file).ok(),
+    match parse(alloc, tokens, 5000) {
+        Ok(file) => print(alloc, bytes, &file).ok(),
         Err(_) => None,
     }
 }

@@ -17,7 +17,7 @@ pub(crate) enum Outcome {
 }
 
 /// The bytes of a text of a test, which has at most 5000.
-pub(crate) fn length(text: &str) -> u32 {
+fn length(text: &str) -> u32 {
     text.len().min(5000) as u32
 }
 
