@@ -4,3 +4,4 @@ pub mod Pieces
 pub mod Lexing
 pub mod Counting
 pub mod Law
+pub mod Apart

@@ -115,6 +115,14 @@ piece_cut text utf8 some =
     (λ _. either (CutsBy text) (nat_lt 0 (length (leading_name text))) _ _ (λ named. name_cut text utf8 (ltb-true _ _ named))
     (λ _. symbol_cut text utf8))))
 
--- which piece it is where it is no gap and no number
+-- which piece it is where it is a blank
+pub first_way : {A : Type 0} (x : Bool) (a b : A) → x ≡ true → cond x a b ≡ a
+first_way x a b e = rw e refl
+
+-- where it is no gap and no number
 pub fourth_way : {A : Type 0} (x y z : Bool) (a b c d : A) → x ≡ false → y ≡ false → z ≡ false → cond x a (cond y b (cond z c d)) ≡ d
 fourth_way x y z a b c d ex ey ez = rw (ex, ey, ez) refl
+
+-- and where it is a number
+pub third_way : {A : Type 0} (x y z : Bool) (a b c d : A) → x ≡ false → y ≡ false → z ≡ true → cond x a (cond y b (cond z c d)) ≡ c
+third_way x y z a b c d ex ey ez = rw (ex, ey, ez) refl

@@ -122,9 +122,10 @@ fn reserved_words_and_symbols(rt: HostRuntime) {
 fn texts(rt: HostRuntime) {
     let name = TokenKind::Name;
     let number = TokenKind::Number;
-    let rows: [(&str, &[(TokenKind, u32, u32, u64)]); 14] = [
+    let rows: [(&str, &[(TokenKind, u32, u32, u64)]); 15] = [
         ("", &[]),
         (" \t\r\n// no token", &[]),
+        ("a\rb//\rc", &[(name, 0, 1, 0), (name, 2, 3, 0)]),
         ("//\na// b\n//", &[(name, 3, 4, 0)]),
         (
             "a|->b",
@@ -215,7 +216,7 @@ fn faults(rt: HostRuntime) {
 
 #[test]
 fn places(rt: HostRuntime) {
-    let text = "a\u{f6}b\n\n\u{2192}\u{1f600}c";
+    let text = "a\u{f6}b\n\n\u{2192}\u{1f600}c\rd";
     let bytes = text.as_bytes();
     let rows = [
         (0, 1, 1),
@@ -227,6 +228,8 @@ fn places(rt: HostRuntime) {
         (9, 3, 2),
         (13, 3, 3),
         (14, 3, 4),
+        (15, 3, 5),
+        (16, 3, 6),
     ];
     for (at, line, col) in rows {
         assert!(rt; text.is_char_boundary(at as usize), "a place at {at}");

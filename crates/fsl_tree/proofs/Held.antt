@@ -9,7 +9,7 @@ use Rattle.fsl_tree.specs.SpelledExpressions.{Tokens}
 use Rattle.fsl_tree.specs.Printing.{part_of, AreHeld, TokensAreHeld}
 
 -- what stands between two stretches of bytes
-between : (before text after : List ℕ) (from to : ℕ) → from ≡ length before → to ≡ from + length text → take (to - from) (drop from (before ++ (text ++ after))) ≡ text
+pub between : (before text after : List ℕ) (from to : ℕ) → from ≡ length before → to ≡ from + length text → take (to - from) (drop from (before ++ (text ++ after))) ≡ text
 between before text after from to starts ends =
     ap (λ (n : ℕ). take n (drop from (before ++ (text ++ after)))) (let long : to - from ≡ length text = omega (arith, ends) in long)
     ∙ ap (λ (n : ℕ). take (length text) (drop n (before ++ (text ++ after)))) starts
@@ -33,6 +33,10 @@ name_is_no_number k number text is name = let other = name.0 in absurd cc
 number_of : (k : TokenKind) (number : ℕ) (text : List ℕ) → k ≡ kind.Number → IsTextOf k number text → number ≤ 9223372036854775808
 number_of k number text is of = ⊎_elim (fixed_is_no_number k number text is) (λ other. ⊎_elim (name_is_no_number k number text is) (λ (n : IsNumber k number text). n.3) other) of
 
+other_value : (k : TokenKind) (number : ℕ) (text : List ℕ) → (k ≡ kind.Number → ⊥) → IsTextOf k number text → number ≡ 0
+other_value k number text other is =
+    ⊎_elim (λ (f : IsFixed k number text). f.1) (λ rest. ⊎_elim (λ (n : IsName k number text). n.4) (λ (n : IsNumber k number text). absurd (other n.0)) rest) is
+
 held_from : (tokens : Tokens) (bytes before after : List ℕ) (at : ℕ) → bytes ≡ before ++ after → at ≡ length before → AreTokensOf at after tokens → AreHeld bytes tokens
 held_from [] bytes before after at whole counted are = tt
 held_from (t ∷ ts) bytes before after at whole counted are =
@@ -48,8 +52,9 @@ held_from (t ∷ ts) bytes before after at whole counted are =
     let next : bytes ≡ (front ++ text) ++ rest = bytes_are ∙ sym (append_assoc front text rest) in
     let upto : length (front ++ text) ≡ length front + length text = length-append front text in (
       record {
-        name = λ name. (omega (arith, ends), omega (arith, from, ends, all, behind), subst (IsName t.kind t.number) (sym part) (name_of t.kind t.number text name is));
+        name = λ name. (omega (arith, ends, are.5), omega (arith, from, ends, all, behind), subst (IsName t.kind t.number) (sym part) (name_of t.kind t.number text name is));
         number = λ number. number_of t.kind t.number text number is;
+        other = λ other. other_value t.kind t.number text other is;
       },
       held_from ts bytes (front ++ text) rest t.span.to next (omega (arith, from, ends, upto)) others,
     )

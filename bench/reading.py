@@ -1,0 +1,89 @@
+#!/usr/bin/env python3
+"""Times how `check` reads files of many procedures of 250 kB, 500 kB and 1 MB.
+
+    bench/reading.py [PROGRAM]
+
+PROGRAM is the built program, ./fslpp without it. The files are in the grammar, but the stages behind the parser
+refuse them today, so what is timed is reading: bytes, tokens and tree. For each size it prints the tokens, the user
+seconds of the best of five runs, the tokens for each of these seconds, the ratio of the seconds to those of the size
+before, and how many bytes of memory the run took for each byte of the file.
+"""
+
+import os
+import re
+import subprocess
+import sys
+import tempfile
+from pathlib import Path
+
+SIZES = (250_000, 500_000, 1_000_000)
+PROCEDURES = (
+    """inv Ready{n}(data) of v {{ if (v == 0) {{ emp }} else {{ data |-> 7 }} }}
+""",
+    """proc write{n}(flag, data) requires (Rel(flag, Ready{n}(data)) &*& data |-> _) {{
+  store na(data, {n} * 2 + 1); // the item
+  store rel(flag, 1);
+}}
+""",
+    """proc read{n}(flag, data) requires (Init(flag) &*& Acq(flag, Ready{n}(data), 0, {{}})) ensures (result >= 0) {{
+  let seen = load acq(flag);
+  while (seen == 0) inv (Init(flag) &*& if (seen == 0) {{ emp }} else {{ data |-> ?x }}) {{
+    seen = load acq(flag);
+  }}
+  if (seen != {n}) {{ print(-(seen - {n}) * 3); }} else {{ fence acq; }}
+  return load_of_data{n} + seen;
+}}
+""",
+    """proc both{n}() {{
+  let data = alloc na;
+  let flag = alloc acq Ready{n}(data);
+  let old = fetch_add acqrel(flag, 1) with {{ mint(g, 1); }};
+  par {{ write{n}(flag, data); read{n}(flag, data); }}
+}}
+""",
+)
+TOKEN = re.compile(r"&\*&|\|->|[=!<>]=|\w+|[^\w\s]")
+COMMENT = re.compile(r"//[^\n]*")
+
+
+def text_of(size):
+    """Procedures in turn, with their number in their names."""
+    parts, length, number = [], 0, 0
+    while True:
+        part = "".join(p.format(n=number) for p in PROCEDURES)
+        if length + len(part) > size:
+            return "".join(parts)
+        parts.append(part)
+        length += len(part)
+        number += 1
+
+
+def run(program, path):
+    """User seconds, the greatest resident set in bytes, and the answer of one run, which is a verdict or a refusal."""
+    child = subprocess.Popen([program, "check", path], stdout=subprocess.PIPE)
+    out = child.stdout.read()
+    _, status, usage = os.wait4(child.pid, 0)
+    if os.waitstatus_to_exitcode(status) not in (0, 1, 3):
+        sys.exit("bench: the program answered %r" % out)
+    return usage.ru_utime, usage.ru_maxrss * 1024, out.decode().strip()
+
+
+def main():
+    program = sys.argv[1] if len(sys.argv) > 1 else str(Path(__file__).resolve().parent.parent / "fslpp")
+    with tempfile.TemporaryDirectory() as folder:
+        path = str(Path(folder) / "program.fsl")
+        before = None
+        for size in SIZES:
+            text = text_of(size)
+            tokens = len(TOKEN.findall(COMMENT.sub("", text)))
+            Path(path).write_text(text)
+            runs = [run(program, path) for _ in range(5)]
+            seconds, memory = min(r[0] for r in runs), min(r[1] for r in runs)
+            ratio = "" if before is None else ", %.2f times the size before" % (seconds / before)
+            print("%7d bytes, %6d tokens, %s: %.3f s, %.2f million tokens a second%s; %.0f bytes of memory a byte"
+                  % (len(text), tokens, runs[0][2], seconds, tokens / seconds / 1e6, ratio, memory / len(text)))
+            before = seconds
+
+
+if __name__ == "__main__":
+    main()
