@@ -8,8 +8,6 @@ use Rattle.fslpp.specs.declared.refused.Refused.TheVariants as refusals
 use Rattle.fslpp.specs.declared.status.Status.{Status}
 use Rattle.fslpp.specs.Answers.{Reading, IsOnly, Writing, HasFile, HasCause, IsChecked, judged, refused, IsSaid, IsAnswered, IsRan, IsRunAnswer, fails, runs, has_program, has_none, answer, run_answer, verdict_answer, verdict_status, refusal}
 use Rattle.fslpp.specs.Texts.{usage}
-use Rattle.fsl_core.specs.declared.verdict.Verdict.{Verdict}
-use Rattle.fsl_core.specs.declared.verdict.Verdict.TheVariants.{Accepted, Failed}
 use Rattle.fsl_core.specs.Verdicts.{verdict_of}
 use Rattle.fsl_machine.specs.declared.ends.End.{End}
 use Rattle.fsl_graph.specs.declared.graph.Graph.{Graph}
@@ -34,11 +32,6 @@ pub not_read_is : {E : Type 0} (r : Reading) (steps : ℕ) (fault : Refused) →
     → (result : Result Answer E) → IfOk result (λ a. refusal fault ≡ Some a) → IfOk result (IsRan r steps)
 not_read_is r steps fault cause (Ok a) is = has_none fault cause is
 not_read_is r steps fault cause (Err e) is = tt
-
--- a verdict that isn't accepted has status 1
-pub failed_one : (v : Verdict) → (verdict_status v ≡ 0 → ⊥) → verdict_status v ≡ 1
-failed_one (Accepted n) h = grind
-failed_one (Failed proc at kind) h = refl
 
 pub runs_so : {E : Type 0} (bytes : List ℕ) (p : Program) (steps : ℕ) (g : Graph) (end : End) → verdict_status (verdict_of p) ≡ 0 → IsRunOf p steps g end
     → (result : Result Answer E) → IfOk result (λ a. a ≡ run_answer g end) → IfOk result (IsRunAnswer bytes p steps)
