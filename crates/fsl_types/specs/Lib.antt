@@ -1,2 +1,5 @@
+pub mod Faults
+pub mod Names
 pub mod Numbering
 pub mod Reading
+pub mod Walks

@@ -3,8 +3,18 @@
 #![tactic(auto)]
 
 mod expressions;
+mod fault;
 mod names;
 mod numbered;
+mod occurrence;
 mod program;
+mod table;
+mod variable;
+mod walk;
 
+pub use fault::{Fault, TypeKind};
+pub use occurrence::{Access, Due, Occurrence};
 pub use program::straight_program;
+pub use table::Table;
+pub use variable::{Signature, Sort, Variable};
+pub use walk::Walk;
