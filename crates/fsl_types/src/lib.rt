@@ -4,17 +4,23 @@
 
 mod expressions;
 mod fault;
+mod given;
+mod listing;
 mod names;
 mod numbered;
 mod occurrence;
 mod program;
+mod resolved;
 mod table;
 mod variable;
 mod walk;
 
 pub use fault::{Fault, TypeKind};
+pub use given::{Ground, Setting};
+pub use listing::Listing;
 pub use occurrence::{Access, Due, Occurrence};
 pub use program::straight_program;
+pub use resolved::Resolved;
 pub use table::Table;
 pub use variable::{Signature, Sort, Variable};
 pub use walk::Walk;

@@ -1,0 +1,8 @@
+-- What a file gives to all of its parts: its bytes, and the invariants and procedures by their names.
+use Rattle.std.specs.Prelude.{ℕ, List}
+use Rattle.fsl_types.specs.Names.{Signatures}
+
+pub record Given : Type 0 where
+  pub bytes : List ℕ
+  pub invariants : Signatures
+  pub procedures : Signatures
