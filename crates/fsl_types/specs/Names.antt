@@ -1,5 +1,6 @@
 -- Names with what stands behind them, in the order in which they were declared.
 use Rattle.std.specs.Prelude.{ℕ, ◌-◌, List, [], ◌∷◌, ◌++◌, Option, Some, None, take, drop, if◌then◌else◌}
+use Rattle.std.specs.Map.{lookup}
 use Rattle.std.specs.Option.{is_some}
 use Rattle.std.specs.Str.{bytes_eq}
 use Rattle.fsl_base.specs.declared.span.Span.{Span}
@@ -20,8 +21,7 @@ text_at bytes at = take (at.to - at.from) (drop at.from bytes)
 
 -- what stands behind a name
 abbrev pub found : {V : Type 0} → List ℕ → List (List ℕ × V) → Option V
-found name [] = None
-found name (entry ∷ entries) = if bytes_eq name entry.0 then Some entry.1 else found name entries
+found name entries = lookup (bytes_eq name) entries
 
 -- one name more, unless it stands there already
 abbrev pub with_name : {V : Type 0} → List ℕ → V → List (List ℕ × V) → List (List ℕ × V)
