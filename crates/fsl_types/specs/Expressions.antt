@@ -31,6 +31,7 @@ use Rattle.fsl_types.specs.declared.fault.Fault.{Fault}
 use Rattle.fsl_types.specs.declared.occurrence.Due.{Due}
 use Rattle.fsl_types.specs.declared.occurrence.Due.TheVariants as due
 use Rattle.fsl_types.specs.declared.occurrence.Occurrence.TheVariants as occurrence
+use Rattle.fsl_types.specs.declared.scope.Scope.{Scope}
 use Rattle.fsl_types.specs.declared.variable.Signature.{Signature}
 use Rattle.fsl_types.specs.Names.{Names, Signatures, found, slot_at, sort_at, text_at}
 use Rattle.fsl_types.specs.Walks.{noted, one_more}
@@ -145,6 +146,9 @@ pub record Sight : Type 0 where
   pub bytes : List ℕ
   pub names : Names
   pub in_ensures : Bool
+
+abbrev pub sight_of : Scope → Sight
+sight_of scope = record { bytes = scope.bytes.now; names = scope.names.now; in_ensures = scope.in_ensures }
 
 -- a variable's name, where something is due
 abbrev pub judged_name : Sight → Due → Span → Judged

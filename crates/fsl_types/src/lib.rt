@@ -5,6 +5,7 @@
 mod expressions;
 mod fault;
 mod given;
+mod judging;
 mod listing;
 mod names;
 mod numbered;
@@ -19,7 +20,7 @@ mod variable;
 mod walk;
 
 pub use fault::{Fault, TypeKind};
-pub use given::{Ground, Setting};
+pub use given::{Globals, Setting};
 pub use listing::Listing;
 pub use occurrence::{Access, Due, Occurrence};
 pub use program::straight_program;
