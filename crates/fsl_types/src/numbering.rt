@@ -1,11 +1,15 @@
 //! Expressions over numbered variables.
-ghost use Rattle.std.specs.Prelude.{◌≡◌, IfOk};
-ghost use Rattle.fsl_types.specs.Expressions.{condition_of, expression_of, factor_of, is_minus, negated, operator_of, product_of, sum_of, term_of};
+ghost use Rattle.std.specs.Prelude.{◌≡◌, ◌++◌, map, IfOk};
+ghost use Rattle.std.specs.Option.{option_copied};
+ghost use Rattle.fsl_types.specs.Expressions.{condition_of, expression_of, factor_of, is_minus, negated, next_value, number_of, numbered_arguments, operator_of, product_of, sum_of, term_of};
 
 use crate::scope::Scope;
+use crate::variable::Signature;
 use fsl_base::{Boxed, List};
-use fsl_core::{CmpOp, Cond, Expr, Part};
-use fsl_tree::{Comparison, Condition, Expression, Factor, Sign, Term};
+use fsl_core::{CmpOp, Cond, Expr, Inst, Part};
+use fsl_tree::{
+    Arguments, Comparison, Condition, Expression, Factor, NextArgument, Sign, Term, Use,
+};
 use std::alloc::{AllocError, Global};
 
 fn is_minus(sign: Sign) -> bool
@@ -69,6 +73,16 @@ fn sum(alloc: Global, first: Expr, more: List<Part>) -> Result<Expr, AllocError>
     })?;
     parts.append(more)?;
     Ok(Expr::Sum { parts })
+}
+
+/// The number of an invariant or a procedure, 0 where it isn't known.
+pub fn number_of(signature: Option<&Signature>) -> u32
+    ensures { result ≡ number_of (option_copied signature.entry) }
+{
+    match signature {
+        Some(known) => known.number,
+        None => 0,
+    }
 }
 
 impl<'s, 'a> Scope<'s, 'a> {
@@ -157,5 +171,54 @@ impl<'s, 'a> Scope<'s, 'a> {
                 })
             }
         }
+    }
+
+    /// The expressions so far and those of the arguments behind the first.
+    fn more_arguments(
+        &self,
+        alloc: Global,
+        so_far: List<Expr>,
+        more: &[NextArgument],
+    ) -> Result<List<Expr>, AllocError>
+        ensures { IfOk result (λ list. list ≡ so_far ++ map (expression_of self.now.bytes.now self.now.names.now) (map next_value more.now)) }
+    {
+        let mut list = so_far;
+        for next in more {
+            list.push(self.expression(alloc, &next.value)?)?;
+        }
+        Ok(list)
+    }
+
+    /// Arguments, or excluded values.
+    pub fn arguments(
+        &self,
+        alloc: Global,
+        tree: &Option<Arguments>,
+    ) -> Result<List<Expr>, AllocError>
+        ensures { IfOk result (λ list. list ≡ numbered_arguments self.now.bytes.now self.now.names.now tree.now) }
+    {
+        let mut list = List::new(alloc);
+        match tree {
+            None => Ok(list),
+            Some(given) => {
+                list.push(self.expression(alloc, &given.first)?)?;
+                self.more_arguments(alloc, list, given.more.as_slice())
+            }
+        }
+    }
+
+    /// An invariant with its arguments.
+    pub fn instance(
+        &self,
+        alloc: Global,
+        signature: Option<&Signature>,
+        tree: &Use,
+    ) -> Result<Inst, AllocError>
+        ensures { IfOk result (λ i. i ≡ record { inv = number_of (option_copied signature.entry); args = numbered_arguments self.now.bytes.now self.now.names.now tree.now.arguments }) }
+    {
+        Ok(Inst {
+            inv: number_of(signature),
+            args: self.arguments(alloc, &tree.arguments)?,
+        })
     }
 }
