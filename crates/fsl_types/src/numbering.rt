@@ -19,7 +19,7 @@ fn is_minus(sign: Sign) -> bool
 }
 
 /// The operator of a comparison.
-fn operator(comparison: Comparison) -> CmpOp
+pub fn operator(comparison: Comparison) -> CmpOp
     ensures { result ≡ operator_of comparison }
 {
     match comparison {
