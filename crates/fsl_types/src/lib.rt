@@ -2,6 +2,7 @@
 //! alone: one procedure `main` over sums and non-atomic cells.
 #![tactic(auto)]
 
+mod assertions;
 mod atoms;
 mod expressions;
 mod fault;
