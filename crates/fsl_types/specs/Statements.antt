@@ -40,6 +40,7 @@ use Rattle.fsl_tree.specs.declared.statement.ReleaseWord.TheVariants as release_
 use Rattle.fsl_tree.specs.declared.statement.Statement.{Statement}
 use Rattle.fsl_tree.specs.declared.statement.Statement.TheFolds.{fold-Statement, fold-Block, fold-Otherwise}
 use Rattle.fsl_tree.specs.declared.statement.Statement.TheOpen.{Statement-F, Block-F, Otherwise-F}
+use Rattle.fsl_tree.specs.declared.statement.Statement.TheViews.{out-Statement}
 use Rattle.fsl_types.specs.declared.given.Setting.{Setting}
 use Rattle.fsl_types.specs.declared.occurrence.Access.{Access}
 use Rattle.fsl_types.specs.declared.occurrence.Access.TheVariants as accesses
@@ -285,3 +286,12 @@ block given = fold-Block Runs Inside Inside (statement_step given) block_step ot
 
 abbrev pub otherwise : Given → Otherwise → Inside
 otherwise given = fold-Otherwise Runs Inside Inside (statement_step given) block_step otherwise_step
+
+-- whether a statement holds no other
+abbrev pub is_simple_step : Statement-F Statement Block Otherwise → Bool
+is_simple_step (Statement-F.If word start condition end then_block otherwise) = false
+is_simple_step (Statement-F.While word start condition end invariant body) = false
+is_simple_step _ = true
+
+abbrev pub is_simple : Statement → Bool
+is_simple s = is_simple_step (out-Statement s)

@@ -28,3 +28,12 @@ pub struct Fault {
     pub kind: TypeKind,
     pub span: Span,
 }
+
+/// Why a tree is no program.
+#[derive(Clone, Copy, Debug, PartialEq, Eq)]
+pub enum TypeFault {
+    /// The fault with the least place.
+    Fault { kind: TypeKind, span: Span },
+    /// There was no memory.
+    NoMemory,
+}

@@ -4,6 +4,7 @@
 
 mod assertions;
 mod atoms;
+mod declarations;
 mod expressions;
 mod fault;
 mod given;
@@ -15,18 +16,22 @@ mod numbering;
 mod occurrence;
 mod program;
 mod resolved;
+mod resolving;
+mod right_sides;
 mod rules;
 mod scope;
+mod statements;
 mod table;
 mod variable;
 mod walk;
 
-pub use fault::{Fault, TypeKind};
+pub use fault::{Fault, TypeFault, TypeKind};
 pub use given::{Globals, Setting};
 pub use listing::Listing;
 pub use occurrence::{Access, Due, Occurrence};
 pub use program::straight_program;
 pub use resolved::Resolved;
+pub use resolving::resolve;
 pub use rules::{least_fault, note};
 pub use scope::Scope;
 pub use table::Table;
