@@ -113,12 +113,16 @@ impl<'a> Walk<'a> {
                 choice(alloc, cond, one, other)
             }
             Atom::Up {
-                word, assertion, ..
+                word,
+                assertion,
+                ..
             } => Ok(Asrt::Up {
                 a: self.inside(alloc, globals, setting, *word, assertion.get())?,
             }),
             Atom::Down {
-                word, assertion, ..
+                word,
+                assertion,
+                ..
             } => Ok(Asrt::Down {
                 a: self.inside(alloc, globals, setting, *word, assertion.get())?,
             }),
@@ -157,7 +161,10 @@ impl<'a> Walk<'a> {
                 excluded,
             ),
             Atom::Bank {
-                word, bank, amount, ..
+                word,
+                bank,
+                amount,
+                ..
             } => self.tokens(alloc, globals, setting, *word, *bank, amount),
             Atom::Related { left, relation } => {
                 self.related(alloc, globals, setting, left, relation)

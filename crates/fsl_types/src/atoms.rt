@@ -16,7 +16,9 @@ use crate::variable::{Signature, Sort};
 use crate::walk::Walk;
 use fsl_base::Span;
 use fsl_core::{Asrt, Cond, Expr, Inst, Pat};
-use fsl_tree::{Arguments, BankWord, Comparison, Condition, Expression, Pattern, Relation, Share, Use};
+use fsl_tree::{
+    Arguments, BankWord, Comparison, Condition, Expression, Pattern, Relation, Share, Use,
+};
 use std::alloc::{AllocError, Global};
 
 /// A share of all.

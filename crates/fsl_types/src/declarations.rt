@@ -58,11 +58,7 @@ impl<'a> Walk<'a> {
     }
 
     /// Parameters.
-    fn parameters(
-        &mut self,
-        bytes: &'a [u8],
-        tree: &Option<Parameters>,
-    ) -> Result<(), AllocError>
+    fn parameters(&mut self, bytes: &'a [u8], tree: &Option<Parameters>) -> Result<(), AllocError>
         ensures { OnOk result (self.new ≡ with_parameters bytes.now (parameters_of tree.now) self.old) }
     {
         match tree {

@@ -71,7 +71,12 @@ fn is_fit(arguments: &Option<Arguments>, banks: &[bool]) -> bool
 
 impl<'s, 'a> Scope<'s, 'a> {
     /// A variable's name, where something is due.
-    pub fn judge_name(&self, due: Due, faults: &mut List<Fault>, place: Span) -> Result<(), AllocError>
+    pub fn judge_name(
+        &self,
+        due: Due,
+        faults: &mut List<Fault>,
+        place: Span,
+    ) -> Result<(), AllocError>
         ensures { OnOk result (faults.new ≡ judged_name (sight_of self.now) due place faults.old) }
     {
         note(
@@ -85,7 +90,12 @@ impl<'s, 'a> Scope<'s, 'a> {
     }
 
     #[cycle(judged)]
-    fn judge_factor(&self, due: Due, faults: &mut List<Fault>, tree: &Factor) -> Result<(), AllocError>
+    fn judge_factor(
+        &self,
+        due: Due,
+        faults: &mut List<Fault>,
+        tree: &Factor,
+    ) -> Result<(), AllocError>
         ensures { OnOk result (faults.new ≡ judged_factor (sight_of self.now) due tree.now faults.old) }
     {
         match tree {
@@ -99,7 +109,11 @@ impl<'s, 'a> Scope<'s, 'a> {
                 },
             ),
             Factor::Negative { factor, .. } => self.judge_factor(due, faults, factor.get()),
-            Factor::Group { expression, .. } => self.judge_expression(due, faults, expression.get()),
+            Factor::Group { expression, .. } => self.judge_expression(
+                due,
+                faults,
+                expression.get(),
+            ),
         }
     }
 
@@ -116,7 +130,12 @@ impl<'s, 'a> Scope<'s, 'a> {
 
     /// An expression, each of whose names is to be what is due.
     #[cycle(judged)]
-    pub fn judge_expression(&self, due: Due, faults: &mut List<Fault>, tree: &Expression) -> Result<(), AllocError>
+    pub fn judge_expression(
+        &self,
+        due: Due,
+        faults: &mut List<Fault>,
+        tree: &Expression,
+    ) -> Result<(), AllocError>
         ensures { OnOk result (faults.new ≡ judged_expression (sight_of self.now) due tree.now faults.old) }
     {
         self.judge_term(due, faults, &tree.first)?;
@@ -127,14 +146,22 @@ impl<'s, 'a> Scope<'s, 'a> {
     }
 
     /// An expression over numbers.
-    pub fn judge_number(&self, faults: &mut List<Fault>, tree: &Expression) -> Result<(), AllocError>
+    pub fn judge_number(
+        &self,
+        faults: &mut List<Fault>,
+        tree: &Expression,
+    ) -> Result<(), AllocError>
         ensures { OnOk result (faults.new ≡ judged_number (sight_of self.now) tree.now faults.old) }
     {
         self.judge_expression(Due::Number, faults, tree)
     }
 
     /// A condition.
-    pub fn judge_condition(&self, faults: &mut List<Fault>, tree: &Condition) -> Result<(), AllocError>
+    pub fn judge_condition(
+        &self,
+        faults: &mut List<Fault>,
+        tree: &Condition,
+    ) -> Result<(), AllocError>
         ensures { OnOk result (faults.new ≡ judged_condition (sight_of self.now) tree.now faults.old) }
     {
         match tree {
@@ -147,7 +174,12 @@ impl<'s, 'a> Scope<'s, 'a> {
     }
 
     /// An argument; a bank is given by its name alone.
-    fn judge_argument(&self, due: Due, faults: &mut List<Fault>, tree: &Expression) -> Result<(), AllocError>
+    fn judge_argument(
+        &self,
+        due: Due,
+        faults: &mut List<Fault>,
+        tree: &Expression,
+    ) -> Result<(), AllocError>
         ensures { OnOk result (faults.new ≡ judged_argument (sight_of self.now) due tree.now faults.old) }
     {
         if due != Due::Bank {
@@ -165,7 +197,12 @@ impl<'s, 'a> Scope<'s, 'a> {
     }
 
     /// The arguments behind the first, for these parameters.
-    fn judge_more(&self, faults: &mut List<Fault>, banks: &[bool], more: &[NextArgument]) -> Result<(), AllocError>
+    fn judge_more(
+        &self,
+        faults: &mut List<Fault>,
+        banks: &[bool],
+        more: &[NextArgument],
+    ) -> Result<(), AllocError>
         ensures { OnOk result (faults.new ≡ judged_arguments (sight_of self.now) banks.now (map next_value more.now) faults.old) }
     {
         let mut left = banks;
@@ -177,7 +214,12 @@ impl<'s, 'a> Scope<'s, 'a> {
     }
 
     /// The arguments for these parameters.
-    fn judge_arguments(&self, faults: &mut List<Fault>, banks: &[bool], arguments: &Option<Arguments>) -> Result<(), AllocError>
+    fn judge_arguments(
+        &self,
+        faults: &mut List<Fault>,
+        banks: &[bool],
+        arguments: &Option<Arguments>,
+    ) -> Result<(), AllocError>
         ensures { OnOk result (faults.new ≡ judged_arguments (sight_of self.now) banks.now (arguments_of arguments.now) faults.old) }
     {
         match arguments {
@@ -190,7 +232,12 @@ impl<'s, 'a> Scope<'s, 'a> {
     }
 
     /// A use of an invariant or a procedure.
-    pub fn judge_use(&self, faults: &mut List<Fault>, signature: Option<&Signature>, tree: &Use) -> Result<(), AllocError>
+    pub fn judge_use(
+        &self,
+        faults: &mut List<Fault>,
+        signature: Option<&Signature>,
+        tree: &Use,
+    ) -> Result<(), AllocError>
         ensures { OnOk result (faults.new ≡ judged_use (sight_of self.now) (option_copied signature.entry) tree.now faults.old) }
     {
         match signature {
@@ -220,7 +267,12 @@ impl<'s, 'a> Scope<'s, 'a> {
     }
 
     /// One excluded value, behind a number of others.
-    fn judge_excluded_value(&self, faults: &mut List<Fault>, before: u32, tree: &Expression) -> Result<(), AllocError>
+    fn judge_excluded_value(
+        &self,
+        faults: &mut List<Fault>,
+        before: u32,
+        tree: &Expression,
+    ) -> Result<(), AllocError>
         ensures { OnOk result (faults.new ≡ judged_excluded (sight_of self.now) before (tree.now ∷ []) faults.old) }
     {
         note(
@@ -234,7 +286,11 @@ impl<'s, 'a> Scope<'s, 'a> {
     }
 
     /// The excluded values of an `Acq`.
-    pub fn judge_excluded(&self, faults: &mut List<Fault>, excluded: &Option<Arguments>) -> Result<(), AllocError>
+    pub fn judge_excluded(
+        &self,
+        faults: &mut List<Fault>,
+        excluded: &Option<Arguments>,
+    ) -> Result<(), AllocError>
         ensures { OnOk result (faults.new ≡ judged_excluded (sight_of self.now) 0 (arguments_of excluded.now) faults.old) }
     {
         match excluded {
@@ -247,7 +303,11 @@ impl<'s, 'a> Scope<'s, 'a> {
     }
 
     /// The excluded values behind the first.
-    fn judge_more_excluded(&self, faults: &mut List<Fault>, more: &[NextArgument]) -> Result<(), AllocError>
+    fn judge_more_excluded(
+        &self,
+        faults: &mut List<Fault>,
+        more: &[NextArgument],
+    ) -> Result<(), AllocError>
         ensures { OnOk result (faults.new ≡ judged_excluded (sight_of self.now) 1 (map next_value more.now) faults.old) }
     {
         let mut before = 1;

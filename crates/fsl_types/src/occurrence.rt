@@ -37,9 +37,14 @@ pub enum Occurrence {
         sort: Option<Sort>,
     },
     /// An expression that isn't a name alone, where a bank is due.
-    Compound { place: Span },
+    Compound {
+        place: Span,
+    },
     /// `result`
-    Outcome { place: Span, in_ensures: bool },
+    Outcome {
+        place: Span,
+        in_ensures: bool,
+    },
     /// A name is declared: whether it stands for something already, how many are declared before it, and
     /// how many there may be.
     Declared {
@@ -49,18 +54,36 @@ pub enum Occurrence {
         limit: u32,
     },
     /// The mode of an access.
-    Moded { access: Access, mode: Mode },
+    Moded {
+        access: Access,
+        mode: Mode,
+    },
     /// `return`
-    Return { place: Span, in_loop: bool },
+    Return {
+        place: Span,
+        in_loop: bool,
+    },
     /// An invariant or a procedure is used; `fits` says where it is known whether there are as many arguments
     /// as parameters.
-    Used { place: Span, fits: Option<bool> },
+    Used {
+        place: Span,
+        fits: Option<bool>,
+    },
     /// `up` or `down`
-    Modality { place: Span, allowed: bool },
+    Modality {
+        place: Span,
+        allowed: bool,
+    },
     /// A procedure is named in a `par`.
-    Child { place: Span, modal: bool },
+    Child {
+        place: Span,
+        modal: bool,
+    },
     /// A part of an invariant, by its brace.
-    Part { place: Span, before: u32 },
+    Part {
+        place: Span,
+        before: u32,
+    },
     /// The number of a part in an `Acq`, and that of the last part where the invariant is known.
     PartNumber {
         place: Span,
@@ -68,9 +91,18 @@ pub enum Occurrence {
         last: Option<usize>,
     },
     /// An excluded value of an `Acq`.
-    Excluded { place: Span, before: u32 },
+    Excluded {
+        place: Span,
+        before: u32,
+    },
     /// `par`
-    Parallel { place: Span, calls: usize },
+    Parallel {
+        place: Span,
+        calls: usize,
+    },
     /// The end of the file.
-    End { place: Span, has_main: bool },
+    End {
+        place: Span,
+        has_main: bool,
+    },
 }

@@ -227,11 +227,13 @@ pub fn resolve(alloc: Global, bytes: &[u8], file: &File) -> Result<Program, Type
     ensures fault { IfErr result (λ fault. IsNoProgram bytes.now file.now fault) }
 {
     match resolve_all(alloc, bytes, file) {
-        Ok(Resolved {
-            invs,
-            procs,
-            faults,
-        }) => match least_fault(faults.as_slice()) {
+        Ok(
+            Resolved {
+                invs,
+                procs,
+                faults,
+            },
+        ) => match least_fault(faults.as_slice()) {
             None => Ok(Program { invs, procs }),
             Some(Fault { kind, span }) => Err(TypeFault::Fault { kind, span }),
         },

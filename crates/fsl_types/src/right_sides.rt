@@ -116,7 +116,11 @@ impl<'s, 'a> Scope<'s, 'a> {
     }
 
     /// The faults of a step of tokens.
-    pub fn judge_step(&self, faults: &mut List<Fault>, tree: &fsl_tree::Step) -> Result<(), AllocError>
+    pub fn judge_step(
+        &self,
+        faults: &mut List<Fault>,
+        tree: &fsl_tree::Step,
+    ) -> Result<(), AllocError>
         ensures { OnOk result (faults.new ≡ judged_step (sight_of self.now) tree.now faults.old) }
     {
         self.judge_name(Due::Bank, faults, tree.bank)?;
@@ -148,6 +152,23 @@ impl<'s, 'a> Scope<'s, 'a> {
         self.judge_number(faults, first)?;
         self.judge_number(faults, second)?;
         self.judge_steps(faults, along)
+    }
+
+    /// The faults of a compare-exchange.
+    fn judge_compare_and_swap(
+        &self,
+        faults: &mut List<Fault>,
+        modes: (fsl_tree::Mode, fsl_tree::Mode),
+        operands: (&Expression, &Expression, &Expression),
+        along: &Option<With>,
+    ) -> Result<(), AllocError>
+        ensures { OnOk result (faults.new ≡ judged_steps (sight_of self.now) along.now (judged_number (sight_of self.now) operands.entry.2.now (judged_number (sight_of self.now) operands.entry.1.now (judged_number (sight_of self.now) operands.entry.0.now (judged_mode accesses.Failure modes.1 (judged_mode accesses.Update modes.0 faults.old)))))) }
+    {
+        let (success, failure) = modes;
+        let (location, expected, new) = operands;
+        judge_modes(faults, success, failure)?;
+        self.judge_number(faults, location)?;
+        self.judge_operands(faults, (expected, new), along)
     }
 
     /// A compare-exchange.
@@ -242,6 +263,69 @@ impl<'a> Walk<'a> {
         }
     }
 
+    /// A load.
+    fn load(
+        &mut self,
+        alloc: Global,
+        globals: &Globals<'a>,
+        slot: u32,
+        how: fsl_tree::Mode,
+        location: &Expression,
+    ) -> Result<Act, AllocError>
+        ensures made { IfOk result (λ a. a ≡ act.Load slot (mode_of how) (expression_of globals.now.bytes.now self.old.names location.now)) }
+        ensures walk { OnOk result (self.new ≡ judging (λ faults. judged_number (seen (given_of globals.now) self.old) location.now (judged_mode accesses.Load how faults)) self.old) }
+    {
+        let scope = globals.scope(&self.names, false);
+        judge_mode(&mut self.faults, Access::Load, how)?;
+        scope.judge_number(&mut self.faults, location)?;
+        let at = scope.expression(alloc, location)?;
+        Ok(Act::Load {
+            slot,
+            mode: mode(how),
+            at,
+        })
+    }
+
+    /// A compare-exchange.
+    fn compare_and_swap(
+        &mut self,
+        alloc: Global,
+        globals: &Globals<'a>,
+        slot: u32,
+        modes: (fsl_tree::Mode, fsl_tree::Mode),
+        operands: (&Expression, &Expression, &Expression),
+        along: &Option<With>,
+    ) -> Result<Act, AllocError>
+        ensures made { IfOk result (λ a. a ≡ act.Cas slot (mode_of modes.0) (mode_of modes.1) (expression_of globals.now.bytes.now self.old.names operands.entry.0.now) (expression_of globals.now.bytes.now self.old.names operands.entry.1.now) (expression_of globals.now.bytes.now self.old.names operands.entry.2.now) (steps_of globals.now.bytes.now self.old.names along.now)) }
+        ensures walk { OnOk result (self.new ≡ judging (λ faults. judged_steps (seen (given_of globals.now) self.old) along.now (judged_number (seen (given_of globals.now) self.old) operands.entry.2.now (judged_number (seen (given_of globals.now) self.old) operands.entry.1.now (judged_number (seen (given_of globals.now) self.old) operands.entry.0.now (judged_mode accesses.Failure modes.1 (judged_mode accesses.Update modes.0 faults)))))) self.old) }
+    {
+        let scope = globals.scope(&self.names, false);
+        let (success, failure) = modes;
+        scope.judge_compare_and_swap(&mut self.faults, modes, operands, along)?;
+        let modes = (mode(success), mode(failure));
+        scope.compare_and_swap(alloc, slot, modes, operands, along)
+    }
+
+    /// Another read-modify-write.
+    fn update(
+        &mut self,
+        alloc: Global,
+        globals: &Globals<'a>,
+        word: UpdateWord,
+        slot: u32,
+        how: fsl_tree::Mode,
+        operands: (&Expression, &Expression),
+        along: &Option<With>,
+    ) -> Result<Act, AllocError>
+        ensures made { IfOk result (λ a. a ≡ updated word slot (mode_of how) (expression_of globals.now.bytes.now self.old.names operands.entry.0.now) (expression_of globals.now.bytes.now self.old.names operands.entry.1.now) (steps_of globals.now.bytes.now self.old.names along.now)) }
+        ensures walk { OnOk result (self.new ≡ judging (λ faults. judged_steps (seen (given_of globals.now) self.old) along.now (judged_number (seen (given_of globals.now) self.old) operands.entry.1.now (judged_number (seen (given_of globals.now) self.old) operands.entry.0.now (judged_mode accesses.Update how faults)))) self.old) }
+    {
+        let scope = globals.scope(&self.names, false);
+        judge_mode(&mut self.faults, Access::Update, how)?;
+        scope.judge_operands(&mut self.faults, operands, along)?;
+        scope.update(alloc, word, slot, mode(how), operands, along)
+    }
+
     /// What sets the variable of a slot.
     pub fn right_side(
         &mut self,
@@ -253,9 +337,9 @@ impl<'a> Walk<'a> {
         ensures made { IfOk result (λ a. a ≡ right_side_of (given_of globals.now) self.old.names slot tree.now) }
         ensures walk { OnOk result (self.new ≡ judging (judged_right_side (given_of globals.now) (seen (given_of globals.now) self.old) tree.now) self.old) }
     {
-        let scope = globals.scope(&self.names, false);
         match tree {
             RightSide::Value { value } => {
+                let scope = globals.scope(&self.names, false);
                 scope.judge_number(&mut self.faults, value)?;
                 let e = scope.expression(alloc, value)?;
                 Ok(Act::Set { slot, e })
@@ -271,20 +355,9 @@ impl<'a> Walk<'a> {
             RightSide::Allocate { allocation, .. } => {
                 self.allocation(alloc, globals, slot, allocation)
             }
-            RightSide::Load {
-                mode: how,
-                location,
-                ..
-            } => {
-                judge_mode(&mut self.faults, Access::Load, *how)?;
-                scope.judge_number(&mut self.faults, location)?;
-                let at = scope.expression(alloc, location)?;
-                Ok(Act::Load {
-                    slot,
-                    mode: mode(*how),
-                    at,
-                })
-            }
+            RightSide::Load { mode, location, .. } => self.load(
+                alloc, globals, slot, *mode, location,
+            ),
             RightSide::CompareAndSwap {
                 success,
                 failure,
@@ -294,27 +367,20 @@ impl<'a> Walk<'a> {
                 with,
                 ..
             } => {
-                judge_modes(&mut self.faults, *success, *failure)?;
-                scope.judge_number(&mut self.faults, location)?;
-                scope.judge_operands(&mut self.faults, (expected, new), with)?;
-                let modes = (mode(*success), mode(*failure));
+                let modes = (*success, *failure);
                 let operands = (location, expected, new);
-                let act = scope.compare_and_swap(alloc, slot, modes, operands, with)?;
-                Ok(act)
+                self.compare_and_swap(alloc, globals, slot, modes, operands, with)
             }
             RightSide::Update {
                 word,
-                mode: how,
+                mode,
                 location,
                 operand,
                 with,
                 ..
             } => {
-                judge_mode(&mut self.faults, Access::Update, *how)?;
-                scope.judge_operands(&mut self.faults, (location, operand), with)?;
                 let operands = (location, operand);
-                let act = scope.update(alloc, *word, slot, mode(*how), operands, with)?;
-                Ok(act)
+                self.update(alloc, globals, *word, slot, *mode, operands, with)
             }
         }
     }

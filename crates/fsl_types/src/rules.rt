@@ -84,7 +84,8 @@ fn is_misfit(o: &Occurrence) -> bool
 {
     match o {
         Occurrence::Used {
-            fits: Some(fits), ..
+            fits: Some(fits),
+            ..
         } => !*fits,
         _ => false,
     }
@@ -190,11 +191,7 @@ fn place_of(o: &Occurrence) -> Span
 }
 
 /// Adds a fault of a kind, if there is one.
-fn note_kind(
-    faults: &mut List<Fault>,
-    kind: TypeKind,
-    o: &Occurrence,
-) -> Result<(), AllocError>
+fn note_kind(faults: &mut List<Fault>, kind: TypeKind, o: &Occurrence) -> Result<(), AllocError>
     ensures { OnOk result (faults.new ≡ faults.old ++ (if breaks kind o.now then fault_at (place_of o.now) kind ∷ [] else [])) }
 {
     if breaks(kind, o) {
