@@ -4,6 +4,7 @@ pub mod Faults
 pub mod Given
 pub mod Names
 pub mod Numbering
+pub mod Predicates
 pub mod Programs
 pub mod Reading
 pub mod Statements
