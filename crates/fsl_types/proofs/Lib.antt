@@ -1,3 +1,4 @@
 pub mod Chains
-pub mod Sums
+pub mod Least
+pub mod Spellings
 pub mod Tables

@@ -3,7 +3,6 @@ pub mod Expressions
 pub mod Faults
 pub mod Given
 pub mod Names
-pub mod Numbering
 pub mod Predicates
 pub mod Programs
 pub mod Reading

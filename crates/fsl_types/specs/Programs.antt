@@ -204,7 +204,7 @@ faults_of bytes file = noted (occurrence.End (end_of bytes) (has_main bytes file
 abbrev pub program_of : List ℕ → File → Program
 program_of bytes file = record { invs = (resolved bytes file).invs; procs = (resolved bytes file).procs }
 
--- a tree is no program where it has a fault, and the first by place and kind is named
-abbrev pub IsNoProgram : List ℕ → File → TypeFault → Type 0
-IsNoProgram bytes file (type_fault.Fault what place) = least_fault (faults_of bytes file) ≡ Some (fault_at place what)
-IsNoProgram bytes file type_fault.NoMemory = Unit {0}
+-- the first fault of a tree by place and kind; want of memory says nothing
+abbrev pub IsFirstFault : List ℕ → File → TypeFault → Type 0
+IsFirstFault bytes file (type_fault.Fault what place) = least_fault (faults_of bytes file) ≡ Some (fault_at place what)
+IsFirstFault bytes file type_fault.NoMemory = Unit {0}

@@ -1,22 +1,19 @@
 //! From the syntax tree to the program: names become numbered slots, and of the faults of a tree that is no
 //! program the first is named. `specs/Programs.antt` says which program a tree is, `specs/Faults.antt` what its
-//! faults are. Straight programs, one procedure `main` over sums and non-atomic cells, have a reader of their own.
+//! faults are.
 #![tactic(auto)]
 
 mod assertions;
 mod atoms;
 mod declarations;
-mod expressions;
 mod fault;
 mod given;
 mod judging;
 mod listing;
 mod names;
-mod numbered;
 mod numbering;
 mod occurrence;
 mod predicates;
-mod program;
 mod resolved;
 mod resolving;
 mod right_sides;
@@ -24,8 +21,6 @@ mod rules;
 mod scope;
 mod statements;
 mod table;
-#[cfg(test)]
-mod tests;
 mod variable;
 mod walk;
 
@@ -34,7 +29,6 @@ pub use given::{Globals, Setting};
 pub use listing::Listing;
 pub use occurrence::{Access, Due, Occurrence};
 pub use predicates::has_predicates;
-pub use program::straight_program;
 pub use resolved::Resolved;
 pub use resolving::resolve;
 pub use rules::{least_fault, note};

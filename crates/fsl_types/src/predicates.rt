@@ -1,6 +1,7 @@
 //! Whether a tree has named predicates. Their uses mean nothing until each is replaced by its body, so a tree that
 //! has any is to be refused before its program is judged.
 ghost use Rattle.std.specs.Prelude.{◌≡◌};
+ghost use Rattle.std.specs.List.{list_any};
 ghost use Rattle.fsl_types.specs.Predicates.{has_predicates, in_assertion, in_atom, in_block, in_clause, in_declaration, in_fence, in_part, in_statement};
 
 use fsl_tree::{Assertion, Atom, Block, Clause, Declaration, FenceKind, File, Part, Statement};
@@ -98,12 +99,23 @@ fn in_part(tree: &Part) -> bool
     in_assertion(&tree.assertion)
 }
 
+fn in_parts(trees: &[Part]) -> bool
+    ensures { result ≡ list_any in_part trees.now }
+{
+    for tree in trees {
+        if in_part(tree) {
+            return true;
+        }
+    }
+    false
+}
+
 fn in_declaration(tree: &Declaration) -> bool
     ensures { result ≡ in_declaration tree.now }
 {
     match tree {
         Declaration::Invariant { invariant } => {
-            in_part(&invariant.first) || invariant.more.as_slice().iter().any(|part| in_part(part))
+            in_part(&invariant.first) || in_parts(invariant.more.as_slice())
         }
         Declaration::Predicate { .. } => true,
         Declaration::Procedure { procedure } => {
@@ -114,12 +126,20 @@ fn in_declaration(tree: &Declaration) -> bool
     }
 }
 
+fn in_declarations(trees: &[Declaration]) -> bool
+    ensures { result ≡ list_any in_declaration trees.now }
+{
+    for tree in trees {
+        if in_declaration(tree) {
+            return true;
+        }
+    }
+    false
+}
+
 /// Whether a predicate is declared in a file, or used in one of its assertions.
 pub fn has_predicates(file: &File) -> bool
     ensures { result ≡ has_predicates file.now }
 {
-    file.declarations
-        .as_slice()
-        .iter()
-        .any(|declaration| in_declaration(declaration))
+    in_declarations(file.declarations.as_slice())
 }

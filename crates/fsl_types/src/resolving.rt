@@ -3,7 +3,7 @@ ghost use Rattle.std.specs.Prelude.{◌≡◌, ◌∷◌, ◌++◌, ◌<◌, ◌
 ghost use Rattle.std.specs.Option.{option_copied};
 ghost use Rattle.fsl_types.specs.Given.{given_of};
 ghost use Rattle.fsl_types.specs.Faults.{least_fault};
-ghost use Rattle.fsl_types.specs.Programs.{IsNoProgram, all_listed, declaration, declare_each, end_of, faults_of, given_by, has_main, invariants_of, is_bare, listed_invariant, listed_procedure, procedures_of, program_of, resolved};
+ghost use Rattle.fsl_types.specs.Programs.{IsFirstFault, all_listed, declaration, declare_each, end_of, faults_of, given_by, has_main, invariants_of, is_bare, listed_invariant, listed_procedure, procedures_of, program_of, resolved};
 
 use crate::declarations::{Judged, invariant, procedure};
 use crate::fault::{Fault, TypeFault};
@@ -221,10 +221,11 @@ fn resolve_all(alloc: Global, bytes: &[u8], file: &File) -> Result<Resolved, All
 /// The program of a file's tree; where the tree is none, its fault with the least place, at one place the first
 /// kind. It takes time in proportion to the size of the file. A predicate and its uses are left out: they are
 /// replaced before.
+#[tactic(auto, using(crate::proofs::Least::none_named))]
 pub fn resolve(alloc: Global, bytes: &[u8], file: &File) -> Result<Program, TypeFault>
     requires { length bytes.now < 2 ^ 32 }
     ensures program { IfOk result (λ p. (faults_of bytes.now file.now ≡ []) × (p ≡ program_of bytes.now file.now)) }
-    ensures fault { IfErr result (λ fault. IsNoProgram bytes.now file.now fault) }
+    ensures fault { IfErr result (λ fault. IsFirstFault bytes.now file.now fault) }
 {
     match resolve_all(alloc, bytes, file) {
         Ok(

@@ -3,8 +3,7 @@ use Rattle.std.proofs.Common.{◌≡◌, ℕ, List, Option, None, Some, Result, 
 use Rattle.fsl_core.specs.declared.program.Program.{Program}
 use Rattle.fsl_types.specs.Reading.{ReadsAs}
 use Rattle.fslpp.specs.declared.answer.Answer.{Answer}
-use Rattle.fslpp.specs.declared.refused.Refused.{Refused}
-use Rattle.fslpp.specs.declared.refused.Refused.TheVariants as refusals
+use Rattle.fslpp.specs.declared.refused.Unread.{Unread}
 use Rattle.fslpp.specs.declared.status.Status.{Status}
 use Rattle.fslpp.specs.Answers.{Reading, IsOnly, Writing, HasFile, HasCause, IsChecked, judged, refused, IsSaid, IsAnswered, checked_name, answer, verdict_answer, refusal}
 use Rattle.fslpp.specs.Texts.{usage}
@@ -14,7 +13,7 @@ pub judged_is : {E : Type 0} (r : Reading) (bytes : List ℕ) (p : Program) → 
 judged_is r bytes p file reads only (Ok a) is = judged bytes p file reads only is
 judged_is r bytes p file reads only (Err e) is = tt
 
-pub refused_is : {E : Type 0} (r : Reading) (fault : Refused) → HasCause r fault
-    → (result : Result Answer E) → IfOk result (λ a. refusal fault ≡ Some a) → IfOk result (λ a. IsChecked r a)
-refused_is r fault cause (Ok a) is = refused fault cause is
-refused_is r fault cause (Err e) is = tt
+pub refused_is : {E : Type 0} (r : Reading) (unread : Unread) → HasCause r unread
+    → (result : Result Answer E) → IfOk result (λ a. refusal unread ≡ Some a) → IfOk result (λ a. IsChecked r a)
+refused_is r unread cause (Ok a) is = refused unread cause is
+refused_is r unread cause (Err e) is = tt
