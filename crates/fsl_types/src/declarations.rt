@@ -11,7 +11,7 @@ use crate::occurrence::Occurrence;
 use crate::variable::Sort;
 use crate::walk::{Walk, one_more};
 use fsl_base::{List, Span, Text};
-use fsl_core::{Asrt, Inv, Proc};
+use fsl_core::{Asrt, Inv, Proc, Stmt};
 use fsl_tree::{Invariant, NextParameter, Parameter, Parameters, Part, Procedure};
 use std::alloc::{AllocError, Global};
 
@@ -197,6 +197,39 @@ impl<'a> Walk<'a> {
     }
 }
 
+/// A procedure that was read to its end.
+fn finished<'a>(
+    name: Text,
+    params: u32,
+    contract: Contract,
+    body: List<Stmt>,
+    last: Span,
+    walk: Walk<'a>,
+) -> Judged<Proc>
+    ensures { result ≡ record { made = record { name = name; params = params; slots = walk.slots; banks = walk.banks; pre = contract.pre; post = contract.post; body = body; last = last }; faults = walk.faults } }
+{
+    let Contract { pre, post } = contract;
+    let Walk {
+        slots,
+        banks,
+        faults,
+        ..
+    } = walk;
+    Judged {
+        made: Proc {
+            name,
+            params,
+            slots,
+            banks,
+            pre,
+            post,
+            body,
+            last,
+        },
+        faults,
+    }
+}
+
 /// A procedure.
 pub fn procedure<'a>(
     alloc: Global,
@@ -206,29 +239,11 @@ pub fn procedure<'a>(
 ) -> Result<Judged<Proc>, AllocError>
     ensures { IfOk result (λ r. r ≡ record { made = (procedure (given_of globals.now) tree.now faults).made; faults = (procedure (given_of globals.now) tree.now faults).walk.faults }) }
 {
+    let name = name_text(alloc, globals.bytes, tree.name)?;
     let mut walk = Walk::fresh(alloc, faults);
     walk.parameters(globals.bytes, &tree.parameters)?;
     let params = walk.slots;
-    let Contract { pre, post } = walk.contract(alloc, globals, tree)?;
+    let contract = walk.contract(alloc, globals, tree)?;
     let body = walk.block(alloc, globals, false, &tree.body)?;
-    let name = name_text(alloc, globals.bytes, tree.name)?;
-    let Walk {
-        slots,
-        banks,
-        faults,
-        ..
-    } = walk;
-    Ok(Judged {
-        made: Proc {
-            name,
-            params,
-            slots,
-            banks,
-            pre,
-            post,
-            body,
-            last: tree.body.close,
-        },
-        faults,
-    })
+    Ok(finished(name, params, contract, body, tree.body.close, walk))
 }
