@@ -1,3 +1,4 @@
 pub mod Chains
+pub mod Results
 pub mod Sums
 pub mod Tables

@@ -77,8 +77,15 @@ impl<'a> Walk<'a> {
         ensures walk { OnOk result (self.new ≡ declared 256 globals.now.bytes.now name sorts.Local (judging (judged_right_side (given_of globals.now) (seen (given_of globals.now) self.old) right.now) self.old)) }
     {
         let act = self.right_side(alloc, globals, self.slots, right)?;
-        self.declare(globals.bytes, name, Sort::Local, 256)?;
-        Ok(act)
+        self.declare_with(globals.bytes, name, act)
+    }
+
+    /// Declares the variable that an act sets, and gives the act back.
+    fn declare_with(&mut self, bytes: &'a [u8], name: Span, act: Act) -> Result<Act, AllocError>
+        ensures made { IfOk result (λ a. a ≡ act) }
+        ensures walk { OnOk result (self.new ≡ declared 256 bytes.now name sorts.Local self.old) }
+    {
+        self.declare(bytes, name, Sort::Local, 256).and(Ok(act))
     }
 
     /// An assignment.
