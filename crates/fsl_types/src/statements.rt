@@ -85,6 +85,7 @@ impl<'a> Walk<'a> {
         ensures made { IfOk result (λ a. a ≡ act) }
         ensures walk { OnOk result (self.new ≡ declared 256 bytes.now name sorts.Local self.old) }
     {
+        // (without a branch: the layout of an act on two ways at once outgrows the memory of the check)
         self.declare(bytes, name, Sort::Local, 256).and(Ok(act))
     }
 
@@ -200,7 +201,9 @@ impl<'a> Walk<'a> {
                 asrt: Asrt::Emp,
             }),
             FenceKind::Release {
-                word, assertion, ..
+                word,
+                assertion,
+                ..
             } => {
                 let setting = Setting {
                     in_ensures: false,
@@ -359,7 +362,10 @@ impl<'a> Walk<'a> {
                 Ok(stmt(*word, *semicolon, act))
             }
             Statement::Parallel {
-                word, calls, close, ..
+                word,
+                calls,
+                close,
+                ..
             } => {
                 let act = self.parallel(alloc, globals, *word, calls.as_slice())?;
                 Ok(stmt(*word, *close, act))
