@@ -42,6 +42,6 @@ pub inserted_name : {V S : Type 0} (m : IndexMap (Bor (List ℕ)) V S) (key : Bo
     in_sight (insert_entry (λ x y. bytes_eq x.now y.now) m.entries key v) ≡ with_name key.now v seen
 inserted_name m key v seen same absent =
     let none : lookup (λ k. bytes_eq key.now k.now) m.entries ≡ None =
-        none_from_not_some _ (ap is_some (lookup_in_sight (bytes_eq key.now) m.entries ∙ ap (λ es. found key.now es) same) ∙ absent) in
+    none_from_not_some _ (ap is_some (lookup_in_sight (bytes_eq key.now) m.entries ∙ ap (λ es. found key.now es) same) ∙ absent) in
     ap in_sight (insert_entry-new (λ x y. bytes_eq x.now y.now) m key v none)
     ∙ in_sight_append m.entries ((key, v) ∷ []) ∙ ap (λ es. es ++ (key.now, v) ∷ []) same ∙ with_name_new key.now v seen absent

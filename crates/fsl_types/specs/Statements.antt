@@ -122,7 +122,7 @@ right_side_of given names slot (right_sides.Load word how start location end) =
     act.Load slot (mode_of how) (expression_of given.bytes names location)
 right_side_of given names slot (right_sides.CompareAndSwap word success failure start location expected_comma expected new_comma new end along) =
     act.Cas slot (mode_of success) (mode_of failure) (expression_of given.bytes names location) (expression_of given.bytes names expected)
-      (expression_of given.bytes names new) (steps_of given.bytes names along)
+    (expression_of given.bytes names new) (steps_of given.bytes names along)
 right_side_of given names slot (right_sides.Update word how start location comma operand end along) =
     updated word slot (mode_of how) (expression_of given.bytes names location) (expression_of given.bytes names operand) (steps_of given.bytes names along)
 
@@ -246,13 +246,13 @@ statement_step given (Statement-F.Let word name equals right semicolon) in_loop 
 }
 statement_step given (Statement-F.Assign name equals right semicolon) in_loop walk =
     plainly (stmt name semicolon (right_side_of given walk.names (slot_at given.bytes walk.names name) right))
-      (λ faults. judged_right_side given (seen given walk) right (judged_name (seen given walk) due.Target name faults)) walk
+    (λ faults. judged_right_side given (seen given walk) right (judged_name (seen given walk) due.Target name faults)) walk
 statement_step given (Statement-F.Store word how start location comma stored end semicolon) in_loop walk =
     plainly (stmt word semicolon (act.Store (mode_of how) (expression_of given.bytes walk.names location) (expression_of given.bytes walk.names stored)))
-      (λ faults. judged_number (seen given walk) stored (judged_number (seen given walk) location (judged_mode accesses.Store how faults))) walk
+    (λ faults. judged_number (seen given walk) stored (judged_number (seen given walk) location (judged_mode accesses.Store how faults))) walk
 statement_step given (Statement-F.Call word callee semicolon) in_loop walk =
     plainly (stmt word semicolon (act.Call None (number_of (signature_at given.bytes given.procedures callee.name)) (numbered_arguments given.bytes walk.names callee.arguments)))
-      (judged_use (seen given walk) (signature_at given.bytes given.procedures callee.name) callee) walk
+    (judged_use (seen given walk) (signature_at given.bytes given.procedures callee.name) callee) walk
 statement_step given (Statement-F.Parallel word start calls end) in_loop walk =
     plainly (stmt word end (act.Par (map (called given walk.names) calls))) (judged_parallel given (seen given walk) word calls) walk
 statement_step given (Statement-F.Fence word what semicolon) in_loop walk =

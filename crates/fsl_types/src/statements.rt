@@ -77,8 +77,16 @@ impl<'a> Walk<'a> {
         ensures walk { OnOk result (self.new ≡ declared 256 globals.now.bytes.now name sorts.Local (judging (judged_right_side (given_of globals.now) (seen (given_of globals.now) self.old) right.now) self.old)) }
     {
         let act = self.right_side(alloc, globals, self.slots, right)?;
-        self.declare(globals.bytes, name, Sort::Local, 256)?;
-        Ok(act)
+        self.declare_with(globals.bytes, name, act)
+    }
+
+    /// Declares the variable that an act sets, and gives the act back.
+    fn declare_with(&mut self, bytes: &'a [u8], name: Span, act: Act) -> Result<Act, AllocError>
+        ensures made { IfOk result (λ a. a ≡ act) }
+        ensures walk { OnOk result (self.new ≡ declared 256 bytes.now name sorts.Local self.old) }
+    {
+        // (without a branch: the layout of an act on two ways at once outgrows the memory of the check)
+        self.declare(bytes, name, Sort::Local, 256).and(Ok(act))
     }
 
     /// An assignment.
@@ -193,7 +201,9 @@ impl<'a> Walk<'a> {
                 asrt: Asrt::Emp,
             }),
             FenceKind::Release {
-                word, assertion, ..
+                word,
+                assertion,
+                ..
             } => {
                 let setting = Setting {
                     in_ensures: false,
@@ -352,7 +362,10 @@ impl<'a> Walk<'a> {
                 Ok(stmt(*word, *semicolon, act))
             }
             Statement::Parallel {
-                word, calls, close, ..
+                word,
+                calls,
+                close,
+                ..
             } => {
                 let act = self.parallel(alloc, globals, *word, calls.as_slice())?;
                 Ok(stmt(*word, *close, act))

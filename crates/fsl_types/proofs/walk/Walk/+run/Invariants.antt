@@ -6,7 +6,7 @@ use Rattle.fsl_types.proofs.walk.Walk.+run.Given as goal
 abbrev pub invariant-statements-loop-tree : goal.invariant-statements-loop-tree
 invariant-statements-loop-tree l = record {
   made : l.list ++ (run_each (map (statement (given_of l.globals)) (drop l.tree-index l.trees)) l.in_loop l.self).made
-    ≡ (run_each (map (statement (given_of l.globals)) l.trees) l.in_loop l.initial.self).made;
+      ≡ (run_each (map (statement (given_of l.globals)) l.trees) l.in_loop l.initial.self).made;
   walk : (run_each (map (statement (given_of l.globals)) (drop l.tree-index l.trees)) l.in_loop l.self).walk
-    ≡ (run_each (map (statement (given_of l.globals)) l.trees) l.in_loop l.initial.self).walk;
+      ≡ (run_each (map (statement (given_of l.globals)) l.trees) l.in_loop l.initial.self).walk;
 }

@@ -8,7 +8,7 @@ abbrev pub invariant-loop-tree : goal.invariant-loop-tree
 invariant-loop-tree l = record {
   kept : l.self ≡ record l.initial.self { faults = l.self.faults };
   made : l.calls ++ map (called (given_of l.globals) l.initial.self.names) (drop l.tree-index l.trees)
-    ≡ map (called (given_of l.globals) l.initial.self.names) l.trees;
+      ≡ map (called (given_of l.globals) l.initial.self.names) l.trees;
   judged : in_turn (map (judged_call (given_of l.globals) (seen (given_of l.globals) l.initial.self)) (drop l.tree-index l.trees)) l.self.faults
-    ≡ in_turn (map (judged_call (given_of l.globals) (seen (given_of l.globals) l.initial.self)) l.trees) l.initial.self.faults;
+      ≡ in_turn (map (judged_call (given_of l.globals) (seen (given_of l.globals) l.initial.self)) l.trees) l.initial.self.faults;
 }
