@@ -206,7 +206,7 @@ fn finished<'a>(
     last: Span,
     walk: Walk<'a>,
 ) -> Judged<Proc>
-    ensures { result ≡ record { made = record { name = name; params = params; slots = walk.slots; banks = walk.banks; pre = contract.pre; post = contract.post; body = body; last = last }; faults = walk.faults } }
+    ensures { result ≡ record { made = record { name = name; params = params; slots = walk.entry.slots; banks = walk.entry.banks; pre = contract.pre; post = contract.post; body = body; last = last }; faults = walk.entry.faults } }
 {
     let Contract { pre, post } = contract;
     let Walk {
