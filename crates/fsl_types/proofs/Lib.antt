@@ -1,1 +1,5 @@
-pub mod Sums
+pub mod Chains
+pub mod Least
+pub mod Results
+pub mod Spellings
+pub mod Tables

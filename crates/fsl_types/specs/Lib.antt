@@ -1,2 +1,10 @@
-pub mod Numbering
+pub mod Assertions
+pub mod Expressions
+pub mod Faults
+pub mod Given
+pub mod Names
+pub mod Predicates
+pub mod Programs
 pub mod Reading
+pub mod Statements
+pub mod Walks

@@ -3,8 +3,7 @@ use Rattle.std.proofs.Common.{◌≡◌, ℕ, List, Option, None, Some, Result, 
 use Rattle.fsl_core.specs.declared.program.Program.{Program}
 use Rattle.fsl_types.specs.Reading.{ReadsAs}
 use Rattle.fslpp.specs.declared.answer.Answer.{Answer}
-use Rattle.fslpp.specs.declared.refused.Refused.{Refused}
-use Rattle.fslpp.specs.declared.refused.Refused.TheVariants as refusals
+use Rattle.fslpp.specs.declared.refused.Unread.{Unread}
 use Rattle.fslpp.specs.declared.status.Status.{Status}
 use Rattle.fslpp.specs.Answers.{Reading, IsOnly, Writing, HasFile, HasCause, IsChecked, judged, refused, IsSaid, IsAnswered, IsRan, IsRunAnswer, fails, runs, has_program, has_none, answer, run_answer, verdict_answer, verdict_status, refusal}
 use Rattle.fslpp.specs.Texts.{usage}
@@ -18,20 +17,20 @@ pub judged_is : {E : Type 0} (r : Reading) (bytes : List ℕ) (p : Program) → 
 judged_is r bytes p file reads only (Ok a) is = judged bytes p file reads only is
 judged_is r bytes p file reads only (Err e) is = tt
 
-pub refused_is : {E : Type 0} (r : Reading) (fault : Refused) → HasCause r fault
-    → (result : Result Answer E) → IfOk result (λ a. refusal fault ≡ Some a) → IfOk result (λ a. IsChecked r a)
-refused_is r fault cause (Ok a) is = refused fault cause is
-refused_is r fault cause (Err e) is = tt
+pub refused_is : {E : Type 0} (r : Reading) (unread : Unread) → HasCause r unread
+    → (result : Result Answer E) → IfOk result (λ a. refusal unread ≡ Some a) → IfOk result (λ a. IsChecked r a)
+refused_is r unread cause (Ok a) is = refused unread cause is
+refused_is r unread cause (Err e) is = tt
 
 pub run_is : {E : Type 0} (r : Reading) (steps : ℕ) (bytes : List ℕ) (p : Program) → HasFile r.content r.name bytes → ReadsAs bytes p → IsOnly bytes p
     → (result : Result Answer E) → IfOk result (IsRunAnswer bytes p steps) → IfOk result (IsRan r steps)
 run_is r steps bytes p file reads only (Ok a) is = has_program bytes p file reads only is
 run_is r steps bytes p file reads only (Err e) is = tt
 
-pub not_read_is : {E : Type 0} (r : Reading) (steps : ℕ) (fault : Refused) → HasCause r fault
-    → (result : Result Answer E) → IfOk result (λ a. refusal fault ≡ Some a) → IfOk result (IsRan r steps)
-not_read_is r steps fault cause (Ok a) is = has_none fault cause is
-not_read_is r steps fault cause (Err e) is = tt
+pub not_read_is : {E : Type 0} (r : Reading) (steps : ℕ) (unread : Unread) → HasCause r unread
+    → (result : Result Answer E) → IfOk result (λ a. refusal unread ≡ Some a) → IfOk result (IsRan r steps)
+not_read_is r steps unread cause (Ok a) is = has_none unread cause is
+not_read_is r steps unread cause (Err e) is = tt
 
 pub runs_so : {E : Type 0} (bytes : List ℕ) (p : Program) (steps : ℕ) (g : Graph) (end : End) → verdict_status (verdict_of p) ≡ 0 → IsRunOf p steps g end
     → (result : Result Answer E) → IfOk result (λ a. a ≡ run_answer g end) → IfOk result (IsRunAnswer bytes p steps)

@@ -1,12 +1,11 @@
 -- What an answer says: its status and its text, of what the shelf held before the call and of how its counts rose.
-use Rattle.std.specs.Prelude.{◌≡◌, ◌≤◌, ◌<◌, ◌⊎◌, ℕ, List, [], ◌∷◌, length, take, Option, Some, None, codes, IsTrue, if◌then◌else◌}
+use Rattle.std.specs.Prelude.{◌≡◌, ◌≤◌, ◌<◌, ◌⊎◌, ℕ, List, [], ◌∷◌, length, take, Option, Some, None, option_map, codes, if◌then◌else◌}
 use Rattle.std.specs.Str.{bytes_eq}
 use Rattle.std.specs.Io.KnownBytes.{Appends}
 use Rattle.fsl_base.specs.Outside.{Content, Rose, HoldsNo, raised}
 use Rattle.fsl_core.specs.declared.program.Program.{Program}
 use Rattle.fsl_core.specs.declared.verdict.Verdict.{Verdict}
 use Rattle.fsl_core.specs.declared.verdict.Verdict.TheVariants.{Accepted, Failed}
-use Rattle.fsl_core.specs.Straight.{is_straight}
 use Rattle.fsl_core.specs.Verdicts.{verdict_of}
 use Rattle.fsl_exec_text.specs.Texts.{execution_text}
 use Rattle.fsl_graph.specs.declared.graph.Graph.{Graph}
@@ -16,9 +15,11 @@ use Rattle.fsl_run.specs.Runs.{IsRunOf}
 use Rattle.fsl_types.specs.Reading.{ReadsAs}
 use Rattle.fslpp.specs.declared.answer.Answer.{Answer}
 use Rattle.fslpp.specs.declared.refused.Refused.{Refused}
+use Rattle.fslpp.specs.declared.refused.Unread.{Unread}
 use Rattle.fslpp.specs.declared.refused.Refused.TheVariants as refusals
 use Rattle.fslpp.specs.declared.status.Status.{Status}
-use Rattle.fslpp.specs.Texts.{verdict_text, read_fault, refused_size, refused_form, usage}
+use Rattle.fslpp.specs.Refusals.{IsUnread}
+use Rattle.fslpp.specs.Texts.{verdict_text, read_fault, refused_text, usage}
 
 abbrev pub status : ℕ → Status
 status n = record { 0 = n }
@@ -47,11 +48,12 @@ abbrev pub run_answer : Graph → End → Answer
 run_answer g end = answer (end_status end) (execution_text g end)
 
 -- the answer where no program was read; want of memory has none
-abbrev pub refusal : Refused → Option Answer
-refusal refusals.Read = Some (answer 4 read_fault)
-refusal refusals.Size = Some (answer 3 refused_size)
-refusal refusals.Form = Some (answer 3 refused_form)
-refusal refusals.NoMemory = None
+abbrev pub refusal_of : List ℕ → Refused → Option Answer
+refusal_of bytes refusals.Read = Some (answer 4 read_fault)
+refusal_of bytes fault = option_map (answer 3) (refused_text bytes fault)
+
+abbrev pub refusal : Unread → Option Answer
+refusal unread = refusal_of unread.bytes unread.fault
 
 -- where the shelf tells what it holds, these are the bytes under the name
 abbrev pub IsHeld : Content → List ℕ → List ℕ → Type 0
@@ -77,17 +79,6 @@ pub record HasTooMany (content : Content) (name : List ℕ) (given_before given_
   pub pulled : given_after ≡ raised given_before 1048577
   pub long : IsTooLong content name
 
--- the bytes are no straight program
-abbrev pub IsNoProgram : List ℕ → Type 0
-IsNoProgram bytes = (p : Program) → ReadsAs bytes p → IsTrue (is_straight p) → ⊥
-
--- why bytes were not read: they are no straight program, or there is no memory
-abbrev pub IsUnread : List ℕ → Refused → Type 0
-IsUnread bytes refusals.Form = IsNoProgram bytes
-IsUnread bytes refusals.NoMemory = Unit {0}
-IsUnread bytes refusals.Read = ⊥
-IsUnread bytes refusals.Size = ⊥
-
 -- what the shelf is before a reading, and its counts before and after it
 pub record Reading : Type 0 where
   pub content : Content
@@ -97,18 +88,26 @@ pub record Reading : Type 0 where
   pub given_before : ℕ
   pub given_after : ℕ
 
--- why no program was read: the shelf failed or has no such file; the file is too long; its bytes are no straight
--- program
-abbrev pub HasCause : Reading → Refused → Type 0
-HasCause r refusals.Read = Rose r.faults_before r.faults_after ⊎ HoldsNo r.content r.name
-HasCause r refusals.Size = HasTooMany r.content r.name r.given_before r.given_after
-HasCause r refusals.Form = (bytes : List ℕ) × HasFile r.content r.name bytes × IsNoProgram bytes
-HasCause r refusals.NoMemory = Unit {0}
+-- a file was read, and its bytes are no program that the rules cover
+pub record IsRefused (r : Reading) (bytes : List ℕ) (fault : Refused) : Type 0 where
+  pub file : HasFile r.content r.name bytes
+  pub why : IsUnread bytes fault
+
+-- why no program was read: the shelf failed or has no such file; the file is too long; its bytes are no program, or
+-- none that the rules cover; or there is no memory
+abbrev pub CausedBy : Reading → List ℕ → Refused → Type 0
+CausedBy r bytes refusals.Read = Rose r.faults_before r.faults_after ⊎ HoldsNo r.content r.name
+CausedBy r bytes refusals.Size = HasTooMany r.content r.name r.given_before r.given_after
+CausedBy r bytes refusals.NoMemory = Unit {0}
+CausedBy r bytes fault = IsRefused r bytes fault
+
+abbrev pub HasCause : Reading → Unread → Type 0
+HasCause r unread = CausedBy r unread.bytes unread.fault
 
 -- an answer of `check`: the verdict of the rules on the one program that the file is, or a refusal with its cause
 pub data IsChecked (r : Reading) (a : Answer) : Type 0 where
   judged : (bytes : List ℕ) (p : Program) → HasFile r.content r.name bytes → ReadsAs bytes p → IsOnly bytes p → a ≡ verdict_answer bytes p → IsChecked r a
-  refused : (fault : Refused) → HasCause r fault → refusal fault ≡ Some a → IsChecked r a
+  refused : (unread : Unread) → HasCause r unread → refusal unread ≡ Some a → IsChecked r a
 
 -- the answer of `run` on the program that these bytes are: the verdict of the rules where it fails, else one run
 pub data IsRunAnswer (bytes : List ℕ) (p : Program) (steps : ℕ) (a : Answer) : Type 0 where
@@ -120,7 +119,7 @@ pub data IsRunAnswer (bytes : List ℕ) (p : Program) (steps : ℕ) (a : Answer)
 pub data IsRan (r : Reading) (steps : ℕ) (a : Answer) : Type 0 where
   has_program : (bytes : List ℕ) (p : Program) → HasFile r.content r.name bytes → ReadsAs bytes p → IsOnly bytes p
       → IsRunAnswer bytes p steps a → IsRan r steps a
-  has_none : (fault : Refused) → HasCause r fault → refusal fault ≡ Some a → IsRan r steps a
+  has_none : (unread : Unread) → HasCause r unread → refusal unread ≡ Some a → IsRan r steps a
 
 -- a push failed: the sink's count of faults rose, and a first part of the text was appended
 pub record IsCut (faults_before faults_after : ℕ) (before after : Option (List ℕ)) (text : List ℕ) : Type 0 where

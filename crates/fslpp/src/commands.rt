@@ -1,16 +1,16 @@
 //! The commands of the program, and the top call that chooses one by the words.
 ghost use Rattle.std.specs.Prelude.{◌≡◌, ◌≤◌, codes, length, map, option_map, IfOk, IsTrue};
 ghost use Rattle.fsl_core.specs.Straight.{is_straight};
-ghost use Rattle.fslpp.specs.Answers.{IsAnswered, IsChecked, IsSaid, answer, named, refusal, verdict_answer, verdict_status};
+ghost use Rattle.fslpp.specs.Answers.{IsAnswered, IsChecked, IsSaid, answer, named, verdict_answer, verdict_status};
 ghost use Rattle.fslpp.specs.Texts.{usage};
 
 use crate::answer::{Answer, say};
 use crate::loading::{Loaded, read_program};
-use crate::refused::Refused;
+use crate::refusals::{fixed, refused};
 use crate::run::run_cmd;
 use crate::status::Status;
-use crate::texts::{READ_FAULT, REFUSED_FORM, REFUSED_SIZE, USAGE, verdict_text};
-use fsl_base::{Gate, Shelf, Sink, Text};
+use crate::texts::{USAGE, verdict_text};
+use fsl_base::{Gate, Shelf, Sink};
 use fsl_core::Verdict;
 use fsl_run::RunWords;
 use fsl_sound::judge;
@@ -23,28 +23,6 @@ const RUN_WORDS: RunWords = RunWords {
     seed: None,
     steps: 100000,
 };
-
-/// An answer with a fixed text.
-fn fixed(alloc: Global, status: u8, text: &str) -> Result<Answer, AllocError>
-    ensures { IfOk result (λ a. a ≡ answer status text.now) }
-{
-    Ok(Answer {
-        status: Status(status),
-        text: Text::from_str(alloc, text)?,
-    })
-}
-
-/// The answer where no program was read.
-pub(crate) fn refused(alloc: Global, fault: Refused) -> Result<Answer, AllocError>
-    ensures { IfOk result (λ a. refusal fault ≡ Some a) }
-{
-    match fault {
-        Refused::Read => fixed(alloc, 4, READ_FAULT),
-        Refused::Size => fixed(alloc, 3, REFUSED_SIZE),
-        Refused::Form => fixed(alloc, 3, REFUSED_FORM),
-        Refused::NoMemory => Err(AllocError),
-    }
-}
 
 /// The status of a verdict.
 pub(crate) fn verdict_status(v: &Verdict) -> u8
@@ -93,7 +71,7 @@ fn checked<R: Threads + Sync, H: Shelf, G: Gate>(
 {
     match read_program(alloc, name, shelf) {
         Ok(loaded) => judged(rt, alloc, &loaded, workers, gate),
-        Err(unread) => refused(alloc, unread.fault),
+        Err(unread) => refused(alloc, &unread),
     }
 }
 

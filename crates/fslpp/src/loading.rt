@@ -3,19 +3,18 @@ ghost use Rattle.std.specs.Prelude.{◌≡◌, ◌≤◌, [], IfErr, IfOk, IsTru
 ghost use Rattle.fsl_core.specs.Straight.{is_straight};
 ghost use Rattle.fsl_token.specs.Tokens.{lexed};
 ghost use Rattle.fsl_tree.specs.declared.file.File.{File};
-ghost use Rattle.fsl_tree.specs.Nesting.{nesting};
-ghost use Rattle.fsl_tree.specs.Spelling.{spelling};
-ghost use Rattle.fsl_types.specs.Reading.{ReadsAs};
-ghost use Rattle.fslpp.specs.Answers.{HasCause, HasFile, IsOnly, IsUnread};
+ghost use Rattle.fsl_types.specs.Reading.{IsTreeOf, ReadsAs};
+ghost use Rattle.fslpp.specs.Answers.{CausedBy, HasCause, HasFile, IsOnly};
+ghost use Rattle.fslpp.specs.Refusals.{IsUnread};
 
-use crate::refused::Refused;
+use crate::refused::{Refused, Unread};
 use fsl_base::{List, ReadAll, Shelf, read_all};
 use fsl_core::Program;
 use fsl_flow::built;
 use fsl_parse::{ParseFault, parse};
 use fsl_token::{LexFault, Token, lex};
 use fsl_tree::File;
-use fsl_types::straight_program;
+use fsl_types::{TypeFault, has_predicates, resolve};
 use std::alloc::Global;
 
 /// The most bytes that a file may have.
@@ -28,17 +27,10 @@ pub struct Loaded {
     pub program: Program,
 }
 
-/// Why no program was read, with the bytes where the fault has a place in them, else none.
-#[derive(Drop)]
-pub struct Unread {
-    pub bytes: List<u8>,
-    pub fault: Refused,
-}
-
 /// The bytes of a file.
 fn file_bytes<H: Shelf>(alloc: Global, name: &str, shelf: &mut H) -> Result<List<u8>, Refused>
     ensures file { IfOk result (λ bytes. HasFile (H.content shelf.old) name.now bytes) }
-    ensures cause { IfErr result (λ fault. HasCause (record { content = H.content shelf.old; name = name.now; faults_before = H.faults shelf.old; faults_after = H.faults shelf.new; given_before = H.given shelf.old; given_after = H.given shelf.new }) fault) }
+    ensures cause { IfErr result (λ fault. CausedBy (record { content = H.content shelf.old; name = name.now; faults_before = H.faults shelf.old; faults_after = H.faults shelf.new; given_before = H.given shelf.old; given_after = H.given shelf.new }) [] fault) }
     ensures content { H.content shelf.new ≡ H.content shelf.old }
 {
     if shelf.begin(name).is_err() {
@@ -62,17 +54,16 @@ fn tokens_of(alloc: Global, bytes: &[u8]) -> Result<List<Token>, Refused>
     match lex(alloc, bytes) {
         Ok(tokens) => Ok(tokens),
         Err(LexFault::NoMemory) => Err(Refused::NoMemory),
-        Err(_) => Err(Refused::Form),
+        Err(fault) => Err(Refused::Lex { fault }),
     }
 }
 
 /// The tree of a file.
-#[tactic(auto, using(crate::proofs::Only::only_tree, crate::proofs::Unread::no_tree))]
+#[tactic(auto, using(crate::proofs::Only::tree, crate::proofs::Only::only_tree, crate::proofs::Unread::unexpected, crate::proofs::Unread::too_deep))]
 fn tree_of(alloc: Global, bytes: &[u8]) -> Result<File, Refused>
     requires { length bytes.now ≤ 1048576 }
-    ensures spelled { IfOk result (λ file. lexed bytes.now ≡ Ok (spelling file)) }
-    ensures nested { IfOk result (λ file. nesting file ≤ 64) }
-    ensures only { IfOk result (λ file. (other : File) → lexed bytes.now ≡ Ok (spelling other) → other ≡ file) }
+    ensures tree { IfOk result (IsTreeOf bytes.now) }
+    ensures only { IfOk result (λ file. (other : File) → IsTreeOf bytes.now other → other ≡ file) }
     ensures fault { IfErr result (IsUnread bytes.now) }
 {
     let tokens = match tokens_of(alloc, bytes) {
@@ -81,13 +72,40 @@ fn tree_of(alloc: Global, bytes: &[u8]) -> Result<File, Refused>
     };
     match parse(alloc, &tokens, bytes.len() as u32) {
         Ok(file) => Ok(file),
+        Err(ParseFault::Unexpected { place }) => Err(Refused::Syntax { place }),
+        Err(ParseFault::Deep { place }) => Err(Refused::Deep { place }),
         Err(ParseFault::NoMemory) => Err(Refused::NoMemory),
-        Err(_) => Err(Refused::Form),
+    }
+}
+
+/// The program of the only tree of these bytes, where the rules cover it.
+#[tactic(auto, using(crate::proofs::Only::reads, crate::proofs::Only::only_program, crate::proofs::Unread::ill_typed, crate::proofs::Unread::not_straight, crate::proofs::Unread::with_predicates))]
+fn typed(alloc: Global, bytes: &[u8], file: &File) -> Result<Program, Refused>
+    requires within { length bytes.now ≤ 1048576 }
+    requires tree { IsTreeOf bytes.now file.now }
+    requires only { (other : File) → IsTreeOf bytes.now other → other ≡ file.now }
+    ensures reads { IfOk result (λ p. ReadsAs bytes.now p) }
+    ensures only { IfOk result (λ p. IsOnly bytes.now p) }
+    ensures covered { IfOk result (λ p. IsTrue (is_straight p)) }
+    ensures fault { IfErr result (IsUnread bytes.now) }
+{
+    if has_predicates(file) {
+        return Err(Refused::Form);
+    }
+    match resolve(alloc, bytes, file) {
+        Ok(program) => {
+            if built(&program) {
+                Ok(program)
+            } else {
+                Err(Refused::Form)
+            }
+        }
+        Err(TypeFault::Fault { kind, span }) => Err(Refused::Types { kind, span }),
+        Err(TypeFault::NoMemory) => Err(Refused::NoMemory),
     }
 }
 
 /// The program that the bytes are, where the rules cover it.
-#[tactic(auto, using(crate::proofs::Only::only_program, crate::proofs::Unread::no_numbering, crate::proofs::Unread::not_covered))]
 fn program_of(alloc: Global, bytes: &[u8]) -> Result<Program, Refused>
     requires { length bytes.now ≤ 1048576 }
     ensures reads { IfOk result (λ p. ReadsAs bytes.now p) }
@@ -95,27 +113,15 @@ fn program_of(alloc: Global, bytes: &[u8]) -> Result<Program, Refused>
     ensures covered { IfOk result (λ p. IsTrue (is_straight p)) }
     ensures fault { IfErr result (IsUnread bytes.now) }
 {
-    let file = match tree_of(alloc, bytes) {
-        Ok(file) => file,
-        Err(fault) => return Err(fault),
-    };
-    match straight_program(alloc, bytes, &file) {
-        Ok(Some(program)) => {
-            if built(&program) {
-                Ok(program)
-            } else {
-                Err(Refused::Form)
-            }
-        }
-        Ok(None) => Err(Refused::Form),
-        Err(_) => Err(Refused::NoMemory),
+    match tree_of(alloc, bytes) {
+        Ok(file) => typed(alloc, bytes, &file),
+        Err(fault) => Err(fault),
     }
 }
 
 /// A fault without a place in the bytes.
 fn without_place(alloc: Global, fault: Refused) -> Unread
-    ensures fault { result.fault ≡ fault }
-    ensures no_place { result.bytes ≡ [] }
+    ensures { result ≡ record { bytes = []; fault = fault } }
 {
     Unread {
         bytes: List::new(alloc),
@@ -130,8 +136,8 @@ pub fn read_program<H: Shelf>(alloc: Global, name: &str, shelf: &mut H) -> Resul
     ensures only { IfOk result (λ loaded. IsOnly loaded.bytes loaded.program) }
     ensures file { IfOk result (λ loaded. HasFile (H.content shelf.old) name.now loaded.bytes) }
     ensures covered { IfOk result (λ loaded. IsTrue (is_straight loaded.program)) }
-    ensures cause { IfErr result (λ unread. HasCause (record { content = H.content shelf.old; name = name.now; faults_before = H.faults shelf.old; faults_after = H.faults shelf.new; given_before = H.given shelf.old; given_after = H.given shelf.new }) unread.fault) }
-    ensures no_place { IfErr result (λ unread. unread.bytes ≡ []) }
+    ensures cause { IfErr result (λ unread. HasCause (record { content = H.content shelf.old; name = name.now; faults_before = H.faults shelf.old; faults_after = H.faults shelf.new; given_before = H.given shelf.old; given_after = H.given shelf.new }) unread) }
+    ensures within { IfErr result (λ unread. length unread.bytes ≤ 1048576) }
     ensures content { H.content shelf.new ≡ H.content shelf.old }
 {
     let bytes = match file_bytes(alloc, name, shelf) {
@@ -140,6 +146,6 @@ pub fn read_program<H: Shelf>(alloc: Global, name: &str, shelf: &mut H) -> Resul
     };
     match program_of(alloc, bytes.as_slice()) {
         Ok(program) => Ok(Loaded { bytes, program }),
-        Err(fault) => Err(without_place(alloc, fault)),
+        Err(fault) => Err(Unread { bytes, fault }),
     }
 }

@@ -5,7 +5,8 @@ ghost use Rattle.fsl_core.specs.Verdicts.{verdict_of};
 ghost use Rattle.fslpp.specs.Answers.{IsRan, IsRunAnswer, IsSaid, end_status, run_answer, verdict_answer};
 
 use crate::answer::{Answer, say};
-use crate::commands::{refused, verdict_status};
+use crate::commands::verdict_status;
+use crate::refusals::refused;
 use crate::loading::{Loaded, read_program};
 use crate::status::Status;
 use crate::texts::verdict_text;
@@ -82,7 +83,7 @@ fn answered<R: Threads + Sync, H: Shelf, G: Gate>(
 {
     match read_program(alloc, name, shelf) {
         Ok(loaded) => judged(rt, alloc, loaded, how, gate),
-        Err(unread) => refused(alloc, unread.fault),
+        Err(unread) => refused(alloc, &unread),
     }
 }
 

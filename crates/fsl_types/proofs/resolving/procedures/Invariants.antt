@@ -1,0 +1,7 @@
+use Rattle.std.proofs.Common.{◌≡◌, drop}
+use Rattle.fsl_types.specs.Programs.{list_each, listed_procedure}
+use Rattle.fsl_types.proofs.resolving.procedures.Given as goal
+
+abbrev pub invariant-loop-tree : goal.invariant-loop-tree
+invariant-loop-tree l =
+    list_each (listed_procedure l.bytes) (drop l.tree-index l.trees) l.listing ≡ list_each (listed_procedure l.bytes) l.trees l.initial.listing

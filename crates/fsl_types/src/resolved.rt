@@ -1,0 +1,12 @@
+//! What is made of a file's tree.
+use crate::fault::Fault;
+use fsl_base::List;
+use fsl_core::{Inv, Proc};
+
+/// What was made of the declarations so far, and the faults.
+#[derive(Drop)]
+pub struct Resolved {
+    pub invs: List<Inv>,
+    pub procs: List<Proc>,
+    pub faults: List<Fault>,
+}
