@@ -159,8 +159,14 @@ procedure given p faults =
     let body = (block given p.body).runs false agreed.walk in
     record {
       made = record {
-        name = name_at given.bytes p.name; params = known.slots; slots = body.walk.slots; banks = body.walk.banks;
-        pre = agreed.made.pre; post = agreed.made.post; body = body.made; last = p.body.close;
+        name = name_at given.bytes p.name;
+        params = known.slots;
+        slots = body.walk.slots;
+        banks = body.walk.banks;
+        pre = agreed.made.pre;
+        post = agreed.made.post;
+        body = body.made;
+        last = p.body.close;
       };
       walk = body.walk;
     }

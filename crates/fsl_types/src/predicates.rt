@@ -74,7 +74,9 @@ fn in_statement(tree: &Statement) -> bool
             }
         }
         Statement::While {
-            invariant, body, ..
+            invariant,
+            body,
+            ..
         } => in_clause(invariant) || in_block(body),
         _ => false,
     }

@@ -32,12 +32,7 @@ fn placed_text(alloc: Global, what: &str, place: Place) -> Result<Text, AllocErr
 }
 
 /// `refused WHAT LINE:COL WORD`
-fn worded_text(
-    alloc: Global,
-    what: &str,
-    place: Place,
-    word: &str,
-) -> Result<Text, AllocError>
+fn worded_text(alloc: Global, what: &str, place: Place, word: &str) -> Result<Text, AllocError>
     ensures { IfOk result (λ text. text ≡ worded_text what.now place word.now) }
 {
     let Place { line, col } = place;

@@ -6,8 +6,8 @@ ghost use Rattle.fslpp.specs.Answers.{IsRan, IsRunAnswer, IsSaid, end_status, ru
 
 use crate::answer::{Answer, say};
 use crate::commands::verdict_status;
-use crate::refusals::refused;
 use crate::loading::{Loaded, read_program};
+use crate::refusals::refused;
 use crate::status::Status;
 use crate::texts::verdict_text;
 use fsl_base::{Gate, Shelf, Sink};

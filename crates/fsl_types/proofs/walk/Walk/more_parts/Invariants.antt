@@ -6,7 +6,7 @@ use Rattle.fsl_types.proofs.walk.Walk.more_parts.Given as goal
 abbrev pub invariant-loop-tree : goal.invariant-loop-tree
 invariant-loop-tree l = record {
   made : l.list ++ (parts (given_of l.globals) l.before (drop l.tree-index l.trees) l.self).made
-    ≡ l.fn.so_far ++ (parts (given_of l.globals) 1 l.trees l.initial.self).made;
+      ≡ l.fn.so_far ++ (parts (given_of l.globals) 1 l.trees l.initial.self).made;
   walk : (parts (given_of l.globals) l.before (drop l.tree-index l.trees) l.self).walk
-    ≡ (parts (given_of l.globals) 1 l.trees l.initial.self).walk;
+      ≡ (parts (given_of l.globals) 1 l.trees l.initial.self).walk;
 }
