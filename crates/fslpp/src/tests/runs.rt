@@ -19,9 +19,15 @@ fn run_of<R: Threads + Sync>(
     rt: &R,
     alloc: Global,
     text: &str,
-    how: RunWords,
+    seed: Option<u32>,
+    steps: u32,
     room: u32,
 ) -> Result<(Status, MemSink), AllocError> {
+    let how = RunWords {
+        workers: 1,
+        seed,
+        steps,
+    };
     let mut shelf = shelf(alloc, text.as_bytes(), &[])?;
     let mut sink = MemSink::new(alloc, room, List::new(alloc))?;
     let status = run_cmd(rt, alloc, "f", how, &mut shelf, &mut sink, &OpenGate);
@@ -102,11 +108,6 @@ done
 #[test]
 fn a_run_stops_at_its_bound(rt: HostRuntime) {
     for seed in [None, Some(5)] {
-        let how = RunWords {
-            workers: 1,
-            seed,
-            steps: 2,
-        };
         let wanted = "execution 1
 end spent
 thread 0 proc 0 moves 2 args
@@ -115,7 +116,7 @@ event 1 thread 0 store na 1 7
 mo 1: 1
 done
 ";
-        expect(&rt, run_of(&rt, rt.alloc(), CELL, how, 512), 7, wanted);
+        expect(&rt, run_of(&rt, rt.alloc(), CELL, seed, 2, 512), 7, wanted);
     }
 }
 
@@ -154,18 +155,13 @@ event 0 thread 0 alloc na 1
 #[test]
 fn a_run_meets_the_limit_of_writes(rt: HostRuntime) -> Result<(), Fail> {
     let alloc = rt.alloc();
-    let how = RunWords {
-        workers: 1,
-        seed: None,
-        steps: 100000,
-    };
     let program = stores(alloc, 65537)?;
-    let (status, sink) = run_of(&rt, alloc, program.as_str(), how, 3000000)?;
+    let (status, sink) = run_of(&rt, alloc, program.as_str(), None, 100000, 3000000)?;
     assert_eq!(rt; status, Status(9));
     assert!(rt; sink.written() == limited(alloc)?.as_bytes());
     // one store less meets no limit
     let program = stores(alloc, 65536)?;
-    let (status, _sink) = run_of(&rt, alloc, program.as_str(), how, 3000000)?;
+    let (status, _sink) = run_of(&rt, alloc, program.as_str(), None, 100000, 3000000)?;
     assert_eq!(rt; status, Status(0));
     Ok(())
 }
