@@ -1,11 +1,12 @@
 -- What an answer says: its status and its text, of what the shelf held before the call and of how its counts rose.
-use Rattle.std.specs.Prelude.{◌≡◌, ◌≤◌, ◌<◌, ◌⊎◌, ℕ, List, [], ◌∷◌, length, take, Option, Some, None, option_map, codes, if◌then◌else◌}
+use Rattle.std.specs.Prelude.{◌≡◌, ◌≤◌, ◌<◌, ◌⊎◌, ℕ, List, [], ◌∷◌, length, take, Option, Some, None, option_map, codes, IsTrue, if◌then◌else◌}
 use Rattle.std.specs.Str.{bytes_eq}
 use Rattle.std.specs.Io.KnownBytes.{Appends}
 use Rattle.fsl_base.specs.Outside.{Content, Rose, HoldsNo, raised}
 use Rattle.fsl_core.specs.declared.program.Program.{Program}
 use Rattle.fsl_core.specs.declared.verdict.Verdict.{Verdict}
 use Rattle.fsl_core.specs.declared.verdict.Verdict.TheVariants.{Accepted, Failed}
+use Rattle.fsl_core.specs.Straight.{is_straight}
 use Rattle.fsl_core.specs.Verdicts.{verdict_of}
 use Rattle.fsl_types.specs.Reading.{ReadsAs}
 use Rattle.fslpp.specs.declared.answer.Answer.{Answer}
@@ -88,9 +89,11 @@ CausedBy r bytes fault = IsRefused r bytes fault
 abbrev pub HasCause : Reading → Unread → Type 0
 HasCause r unread = CausedBy r unread.bytes unread.fault
 
--- an answer of `check`: the verdict of the rules on the one program that the file is, or a refusal with its cause
+-- an answer of `check`: the verdict of the rules on the one program that the file is, which they cover, or a refusal
+-- with its cause
 pub data IsChecked (r : Reading) (a : Answer) : Type 0 where
-  judged : (bytes : List ℕ) (p : Program) → HasFile r.content r.name bytes → ReadsAs bytes p → IsOnly bytes p → a ≡ verdict_answer bytes p → IsChecked r a
+  judged : (bytes : List ℕ) (p : Program) → HasFile r.content r.name bytes → ReadsAs bytes p → IsOnly bytes p → IsTrue (is_straight p)
+      → a ≡ verdict_answer bytes p → IsChecked r a
   refused : (unread : Unread) → HasCause r unread → refusal unread ≡ Some a → IsChecked r a
 
 -- a push failed: the sink's count of faults rose, and a first part of the text was appended

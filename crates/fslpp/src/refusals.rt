@@ -32,12 +32,7 @@ fn placed_text(alloc: Global, what: &str, place: Place) -> Result<Text, AllocErr
 }
 
 /// `refused WHAT LINE:COL WORD`
-fn worded_text(
-    alloc: Global,
-    what: &str,
-    place: Place,
-    word: &str,
-) -> Result<Text, AllocError>
+fn worded_text(alloc: Global, what: &str, place: Place, word: &str) -> Result<Text, AllocError>
     ensures { IfOk result (λ text. text ≡ worded_text what.now place word.now) }
 {
     let Place { line, col } = place;
@@ -103,6 +98,7 @@ fn refused_text(alloc: Global, bytes: &[u8], fault: Refused) -> Result<Text, All
 }
 
 /// The answer where no program was read.
+#[tactic(auto, using(crate::proofs::Refusing::answered))]
 pub fn refused(alloc: Global, unread: &Unread) -> Result<Answer, AllocError>
     requires { length unread.now.bytes ≤ 1048576 }
     ensures { IfOk result (λ a. refusal unread.now ≡ Some a) }
