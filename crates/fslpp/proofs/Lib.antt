@@ -1,3 +1,4 @@
 pub mod Answered
 pub mod Only
+pub mod Refusing
 pub mod Unread

@@ -12,7 +12,7 @@ use Rattle.fsl_types.specs.Programs.{faults_of, program_of}
 use Rattle.fsl_types.specs.Reading.{IsTreeOf, ReadsAs}
 use Rattle.fslpp.specs.Answers.{IsOnly}
 
-as_tokens : List Token → Result (List Token) LexFault
+abbrev as_tokens : List Token → Result (List Token) LexFault
 as_tokens tokens = Ok tokens
 
 pub tree : (bytes : List ℕ) (tokens : List Token) (file : File) → lexed bytes ≡ Ok tokens → spelling file ≡ tokens → nesting file ≤ 64 → IsTreeOf bytes file

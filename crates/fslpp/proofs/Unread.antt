@@ -1,6 +1,6 @@
 -- Why bytes are no program that the rules cover: they have no tokens, no tree has their tokens, or their tree has
 -- faults or is past the rules.
-use Rattle.std.proofs.Common.{◌≡◌, ◌≤◌, ◌⊎◌, left, right, Bool, true, false, ℕ, List, [], Result, Ok, Err, Option, Some, None, length, sym, ap, ◌∙◌}
+use Rattle.std.proofs.Common.{◌≡◌, ◌≤◌, inl, inr, Bool, true, false, ℕ, List, [], Result, Ok, Err, Option, Some, None, length, sym, ap, ◌∙◌}
 use Rattle.std.specs.Prelude.{IsTrue}
 use Rattle.fsl_base.specs.declared.span.Span.{Span}
 use Rattle.fsl_core.specs.declared.program.Program.{Program}
@@ -54,7 +54,7 @@ ill_typed bytes file kind place is only plain least = record {
 pub with_predicates : (bytes : List ℕ) (file : File) → IsTreeOf bytes file → ((other : File) → IsTreeOf bytes other → other ≡ file)
     → has_predicates file ≡ true → IsUnread bytes refusals.Form
 with_predicates bytes file is only has = record {
-  has = (file, is, left has);
+  has = (file, is, inl has);
   rules_out = λ p reads straight.
       let none : has_predicates file ≡ false = ap has_predicates (sym (only reads.file reads.tree)) ∙ reads.plain in absurd cc;
 }
@@ -62,7 +62,7 @@ with_predicates bytes file is only has = record {
 pub not_straight : (bytes : List ℕ) (file : File) (q : Program) → IsTreeOf bytes file → ((other : File) → IsTreeOf bytes other → other ≡ file)
     → faults_of bytes file ≡ [] → q ≡ program_of bytes file → is_straight q ≡ false → IsUnread bytes refusals.Form
 not_straight bytes file q is only sound made other = record {
-  has = (file, is, right (sound, ap is_straight (sym made) ∙ other));
+  has = (file, is, inr (sound, ap is_straight (sym made) ∙ other));
   rules_out = λ p reads straight.
       let same : p ≡ q = reads.is ∙ ap (λ f. program_of bytes f) (only reads.file reads.tree) ∙ sym made in
       let false_ : is_straight p ≡ false = ap is_straight same ∙ other in absurd cc;

@@ -1,11 +1,12 @@
 -- What an answer says: its status and its text, of what the shelf held before the call and of how its counts rose.
-use Rattle.std.specs.Prelude.{◌≡◌, ◌≤◌, ◌<◌, ◌⊎◌, ℕ, List, [], ◌∷◌, length, take, Option, Some, None, option_map, codes, if◌then◌else◌}
+use Rattle.std.specs.Prelude.{◌≡◌, ◌≤◌, ◌<◌, ◌⊎◌, ℕ, List, [], ◌∷◌, length, take, Option, Some, None, option_map, codes, IsTrue, if◌then◌else◌}
 use Rattle.std.specs.Str.{bytes_eq}
 use Rattle.std.specs.Io.KnownBytes.{Appends}
 use Rattle.fsl_base.specs.Outside.{Content, Rose, HoldsNo, raised}
 use Rattle.fsl_core.specs.declared.program.Program.{Program}
 use Rattle.fsl_core.specs.declared.verdict.Verdict.{Verdict}
 use Rattle.fsl_core.specs.declared.verdict.Verdict.TheVariants.{Accepted, Failed}
+use Rattle.fsl_core.specs.Straight.{is_straight}
 use Rattle.fsl_core.specs.Verdicts.{verdict_of}
 use Rattle.fsl_exec_text.specs.Texts.{execution_text}
 use Rattle.fsl_graph.specs.declared.graph.Graph.{Graph}
@@ -104,9 +105,11 @@ CausedBy r bytes fault = IsRefused r bytes fault
 abbrev pub HasCause : Reading → Unread → Type 0
 HasCause r unread = CausedBy r unread.bytes unread.fault
 
--- an answer of `check`: the verdict of the rules on the one program that the file is, or a refusal with its cause
+-- an answer of `check`: the verdict of the rules on the one program that the file is, which they cover, or a refusal
+-- with its cause
 pub data IsChecked (r : Reading) (a : Answer) : Type 0 where
-  judged : (bytes : List ℕ) (p : Program) → HasFile r.content r.name bytes → ReadsAs bytes p → IsOnly bytes p → a ≡ verdict_answer bytes p → IsChecked r a
+  judged : (bytes : List ℕ) (p : Program) → HasFile r.content r.name bytes → ReadsAs bytes p → IsOnly bytes p → IsTrue (is_straight p)
+      → a ≡ verdict_answer bytes p → IsChecked r a
   refused : (unread : Unread) → HasCause r unread → refusal unread ≡ Some a → IsChecked r a
 
 -- the answer of `run` on the program that these bytes are: the verdict of the rules where it fails, else one run
@@ -117,7 +120,7 @@ pub data IsRunAnswer (bytes : List ℕ) (p : Program) (steps : ℕ) (a : Answer)
 
 -- an answer of `run`: that on the one program that the file is, or a refusal with its cause
 pub data IsRan (r : Reading) (steps : ℕ) (a : Answer) : Type 0 where
-  has_program : (bytes : List ℕ) (p : Program) → HasFile r.content r.name bytes → ReadsAs bytes p → IsOnly bytes p
+  has_program : (bytes : List ℕ) (p : Program) → HasFile r.content r.name bytes → ReadsAs bytes p → IsOnly bytes p → IsTrue (is_straight p)
       → IsRunAnswer bytes p steps a → IsRan r steps a
   has_none : (unread : Unread) → HasCause r unread → refusal unread ≡ Some a → IsRan r steps a
 

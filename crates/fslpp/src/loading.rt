@@ -146,6 +146,7 @@ pub fn read_program<H: Shelf>(alloc: Global, name: &str, shelf: &mut H) -> Resul
     };
     match program_of(alloc, bytes.as_slice()) {
         Ok(program) => Ok(Loaded { bytes, program }),
+        Err(Refused::NoMemory) => Err(without_place(alloc, Refused::NoMemory)),
         Err(fault) => Err(Unread { bytes, fault }),
     }
 }

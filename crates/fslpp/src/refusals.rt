@@ -98,6 +98,7 @@ fn refused_text(alloc: Global, bytes: &[u8], fault: Refused) -> Result<Text, All
 }
 
 /// The answer where no program was read.
+#[tactic(auto, using(crate::proofs::Refusing::answered))]
 pub fn refused(alloc: Global, unread: &Unread) -> Result<Answer, AllocError>
     requires { length unread.now.bytes ≤ 1048576 }
     ensures { IfOk result (λ a. refusal unread.now ≡ Some a) }

@@ -24,7 +24,7 @@ pub enum Refused {
     NoMemory,
 }
 
-/// Why no program was read, with the bytes where the fault has a place in them, else none.
+/// Why no program was read, with the bytes where it is a fault of theirs, else with none.
 #[derive(Drop)]
 pub struct Unread {
     pub bytes: List<u8>,

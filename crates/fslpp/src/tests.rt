@@ -1,5 +1,7 @@
 //! Whole runs over a shelf and a sink in memory: what no clause says is that memory is found, and which bytes
 //! are which program.
+mod limits;
+mod refusals;
 mod runs;
 
 use crate::commands::{check_cmd, fslpp};
@@ -77,9 +79,14 @@ fn programs_are_judged(rt: HostRuntime) {
             1,
             "failed main 3:3 assert\n",
         ),
-        ("", 3, "refused form\n"),
-        ("proc main() { let d =", 3, "refused form\n"),
-        ("proc main() { print(x); }", 3, "refused form\n"),
+        ("", 3, "refused type 1:1 nomain\n"),
+        ("proc main() { let d =", 3, "refused syntax 1:22\n"),
+        (
+            "proc main() { print(x); }",
+            3,
+            "refused type 1:21 unknown\n",
+        ),
+        ("proc main() { while (true) { } }", 3, "refused form\n"),
     ] {
         expect(
             &rt,
@@ -99,7 +106,10 @@ fn programs_are_judged(rt: HostRuntime) {
 
 #[test]
 fn a_file_has_at_most_1048576_bytes(rt: HostRuntime) {
-    for (count, said) in [(1048577, "refused size\n"), (1048576, "refused form\n")] {
+    for (count, said) in [
+        (1048577, "refused size\n"),
+        (1048576, "refused type 1:1048577 nomain\n"),
+    ] {
         let spaces = vec![in rt.alloc(); b' '; count].expect(&rt, "no memory");
         expect(
             &rt,
