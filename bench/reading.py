@@ -3,10 +3,10 @@
 
     bench/reading.py [PROGRAM]
 
-PROGRAM is the built program, ./fslpp without it. The files are in the grammar, but the stages behind the parser
-refuse them today, so what is timed is reading: bytes, tokens and tree. For each size it prints the tokens, the user
-seconds of the best of five runs, the tokens for each of these seconds, the ratio of the seconds to those of the size
-before, and how many bytes of memory the run took for each byte of the file.
+PROGRAM is the built program, ./fslpp without it. The files are programs, but the rules built so far do not cover
+them, so what is timed is reading: bytes, tokens, tree, names and types. For each size it prints the tokens, the
+seconds of the processor in the best of five runs, the tokens for each of these seconds, the ratio of the seconds to
+those of the size before, and how many bytes of memory the run took for each byte of the file.
 """
 
 import os
@@ -31,10 +31,11 @@ PROCEDURES = (
     seen = load acq(flag);
   }}
   if (seen != {n}) {{ print(-(seen - {n}) * 3); }} else {{ fence acq; }}
-  return load_of_data{n} + seen;
+  return {n} + seen;
 }}
 """,
     """proc both{n}() {{
+  bank g;
   let data = alloc na;
   let flag = alloc acq Ready{n}(data);
   let old = fetch_add acqrel(flag, 1) with {{ mint(g, 1); }};
@@ -48,24 +49,25 @@ COMMENT = re.compile(r"//[^\n]*")
 
 def text_of(size):
     """Procedures in turn, with their number in their names."""
-    parts, length, number = [], 0, 0
+    main = "proc main() { }\n"
+    parts, length, number = [], len(main), 0
     while True:
         part = "".join(p.format(n=number) for p in PROCEDURES)
         if length + len(part) > size:
-            return "".join(parts)
+            return "".join(parts + [main])
         parts.append(part)
         length += len(part)
         number += 1
 
 
 def run(program, path):
-    """User seconds, the greatest resident set in bytes, and the answer of one run, which is a verdict or a refusal."""
+    """Processor seconds, the greatest resident set in bytes, and the answer of one run, which is a verdict or a refusal."""
     child = subprocess.Popen([program, "check", path], stdout=subprocess.PIPE)
     out = child.stdout.read()
     _, status, usage = os.wait4(child.pid, 0)
     if os.waitstatus_to_exitcode(status) not in (0, 1, 3):
         sys.exit("bench: the program answered %r" % out)
-    return usage.ru_utime, usage.ru_maxrss * 1024, out.decode().strip()
+    return usage.ru_utime + usage.ru_stime, usage.ru_maxrss * 1024, out.decode().strip()
 
 
 def main():

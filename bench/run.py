@@ -5,7 +5,7 @@
 
 PROGRAM is the built program, ./fslpp without it. A run judges the program first, so the seconds of `check` are
 taken from those of `run`: what is left is one machine move for each statement and the text of the execution. For
-each shape and size it prints the moves a second (user time, the best of five runs) and the ratio of the seconds
+each shape and size it prints the moves a second (processor time, the best of 25 runs) and the ratio of the seconds
 to the size before.
 """
 
@@ -36,17 +36,17 @@ def prints(count):
 
 
 def seconds(program, action, path):
-    """User seconds of one run, and what it writes."""
+    """Processor seconds of one run, and what it writes."""
     child = subprocess.Popen([program, action, path], stdout=subprocess.PIPE)
     out = child.stdout.read()
     _, status, usage = os.wait4(child.pid, 0)
     if status != 0:
         sys.exit("bench: the program answered %r" % out[:200])
-    return usage.ru_utime, out
+    return usage.ru_utime + usage.ru_stime, out
 
 
 def best(program, action, path):
-    return min(seconds(program, action, path)[0] for _ in range(5))
+    return min(seconds(program, action, path)[0] for _ in range(25))
 
 
 def main():
