@@ -5,8 +5,8 @@
 
 PROGRAM is the built program, ./fslpp without it. A run judges the program first, so the seconds of `check` are
 taken from those of `run`: what is left is one machine move for each statement and the text of the execution. For
-each shape and size it prints the moves a second (user time, the best of five runs) and the ratio of the seconds
-to the size before.
+each shape and size it prints the moves a second (user time of forty runs, in turns with forty of `check`) and the
+ratio of the seconds to the size before.
 """
 
 import os
@@ -16,6 +16,7 @@ import tempfile
 from pathlib import Path
 
 SIZES = (15_000, 30_000, 60_000)
+RUNS = 40
 CELLS = 100
 
 
@@ -45,10 +46,6 @@ def seconds(program, action, path):
     return usage.ru_utime, out
 
 
-def best(program, action, path):
-    return min(seconds(program, action, path)[0] for _ in range(5))
-
-
 def main():
     program = sys.argv[1] if len(sys.argv) > 1 else str(Path(__file__).resolve().parent.parent / "fslpp")
     with tempfile.TemporaryDirectory() as folder:
@@ -60,7 +57,7 @@ def main():
                 out = seconds(program, "run", path)[1]
                 if b"thread 0 proc 0 moves %d args\n" % (size + 1) not in out:
                     sys.exit("bench: the run made other moves")
-                took = best(program, "run", path) - best(program, "check", path)
+                took = sum(seconds(program, "run", path)[0] - seconds(program, "check", path)[0] for _ in range(RUNS)) / RUNS
                 ratio = "" if before is None else "  %.2f times the size before" % (took / before)
                 print("%-6s %5d statements: %.3f s, %.0f moves a second%s" % (shape.__name__, size, took, size / took, ratio))
                 before = took
