@@ -1,15 +1,11 @@
 -- No two different ends have their causes together.
-use Rattle.std.proofs.Common.{arith, ◌≡◌, ◌∙◌, ◌<◌, ℕ, ◌⊎◌, inl, inr, Some, length, sym}
+use Rattle.std.proofs.Common.{arith, ◌≡◌, ◌∙◌, ◌<◌, ℕ, inl, inr, length, sym}
 use Rattle.std.proofs.lemmas.Bool.{cases_order}
-use Rattle.std.proofs.lemmas.Option.{slice_get_within}
-use Rattle.fsl_core.specs.declared.program.Program.{Program}
 use Rattle.fsl_core.specs.Moves.{Config, running, joining, returned, halted, failed}
 use Rattle.fsl_graph.specs.declared.graph.Graph.{Graph}
-use Rattle.fsl_graph.specs.Execution.{IsExecution}
-use Rattle.fsl_machine.specs.declared.ends.End.{End}
 use Rattle.fsl_machine.specs.declared.ends.End.TheVariants as ends
-use Rattle.fsl_machine.specs.Ends.{IsEnd, IsReady, IsReturned, IsStuck}
-use Rattle.fsl_run.specs.Laws.{HasOneEnd, IsSameEnd}
+use Rattle.fsl_machine.specs.Ends.{IsReady, IsReturned, IsStuck}
+use Rattle.fsl_run.specs.Laws.{HasOneEnd}
 
 not_stuck : (c : Config) → IsReturned c → IsStuck c → ⊥
 not_stuck c r s = elim s [

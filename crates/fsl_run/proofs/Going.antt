@@ -1,5 +1,5 @@
 -- A machine that may go on is refused for nothing but a limit or memory, and a move brings it nearer to its bound.
-use Rattle.std.proofs.Common.{arith, ◌≡◌, ◌<◌, ◌+◌, ◌==◌, ℕ, suc, Bool, true, false, List, [], ◌∷◌, length, Option, Some, None, ap, sym, refl, ◌∙◌}
+use Rattle.std.proofs.Common.{arith, ◌≡◌, ◌<◌, ◌==◌, suc, Bool, true, false, List, [], ◌∷◌, length, Option, Some, None, ap, sym, refl, ◌∙◌}
 use Rattle.std.proofs.lemmas.Bool.{eqb-true}
 use Rattle.fsl_graph.specs.declared.graph.Thread.{Thread}
 use Rattle.fsl_machine.specs.declared.ends.LimitKind.{LimitKind}

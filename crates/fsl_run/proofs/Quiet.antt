@@ -1,5 +1,5 @@
 -- A local move shows nothing.
-use Rattle.std.proofs.Common.{◌≡◌, ℕ, Bool, true, false, List, [], ◌∷◌, Option, Some, None, slice_get, ℤ, pos, refl}
+use Rattle.std.proofs.Common.{◌≡◌, ℕ, Bool, List, [], ◌∷◌, Option, Some, None, slice_get, ℤ, pos, refl}
 use Rattle.fsl_core.specs.declared.act.Act.TheOpen.{Act-F}
 use Rattle.fsl_core.specs.declared.act.Act.{Act}
 use Rattle.fsl_core.specs.declared.act.Act.TheViews.{out-Act}
@@ -10,7 +10,7 @@ use Rattle.fsl_core.specs.declared.need.Started.{Started}
 use Rattle.fsl_core.specs.declared.program.Proc.{Proc}
 use Rattle.fsl_core.specs.declared.program.Program.{Program}
 use Rattle.fsl_core.specs.Values.{value_of, holds_of}
-use Rattle.fsl_core.specs.Moves.{Frame, Config, running, joining, returned, halted, failed, Move, given, entered, branching, after_assert, returning, entering, calling, forking, with_stmts, act_move, frame_move, move_of, started_of, arguments_of}
+use Rattle.fsl_core.specs.Moves.{Frame, Config, running, joining, returned, halted, failed, Move, given, entered, branching, returning, entering, calling, forking, with_stmts, act_move, frame_move, move_of, started_of, arguments_of}
 
 abbrev pub IsQuiet : Move → Type 0
 IsQuiet m = m.need ≡ need.Local → (r : Reply) → (m.answered r).label ≡ None

@@ -1,16 +1,14 @@
 -- The moves of a thread that show the same events lead to one configuration.
-use Rattle.std.proofs.Common.{arith, ◌≡◌, ◌<◌, ℕ, suc, inl, inr, List, [], ◌∷◌, Some, None, slice_get, length, subst, sym, refl, ap, ◌∙◌}
+use Rattle.std.proofs.Common.{arith, ◌≡◌, ℕ, inl, inr, List, Some, None, slice_get, subst, sym, refl, ap, ◌∙◌}
 use Rattle.std.proofs.lemmas.Option.{slice_get_cases}
-use Rattle.fsl_core.specs.declared.label.Label.{Label}
 use Rattle.fsl_core.specs.declared.need.Need.TheVariants as need
 use Rattle.fsl_core.specs.declared.need.Reply.TheVariants as reply
 use Rattle.fsl_core.specs.declared.program.Program.{Program}
-use Rattle.fsl_core.specs.Moves.{Config, Moved, showing, moved, need_of, start_of}
+use Rattle.fsl_core.specs.Moves.{Config, Moved, showing, moved, need_of}
 use Rattle.fsl_graph.specs.declared.event.Event.{Event}
 use Rattle.fsl_graph.specs.declared.graph.Graph.{Graph}
-use Rattle.fsl_graph.specs.declared.graph.Thread.{Thread}
 use Rattle.fsl_graph.specs.Events.{Is}
-use Rattle.fsl_graph.specs.Execution.{IsExecution, IsThread, Runs, events_of, reply_of}
+use Rattle.fsl_graph.specs.Execution.{Runs, reply_of}
 use Rattle.fsl_graph.specs.Execution.Runs.{stands, silent, shows}
 use Rattle.fsl_run.specs.Laws.{StandsInOneWay}
 use Rattle.fsl_run.proofs.Quiet.{is_quiet}
