@@ -14,7 +14,10 @@ returns-in-Err-program_of g c =
     let P : List ℕ → Type 0 = λ bytes. IsUnread bytes c.in-Err-program_of.fault in
     let why : IsUnread c.in-Ok.bytes c.in-Err-program_of.fault = subst P c.as_slice.ensures c.in-Err-program_of.ensures.fault in
     record {
-      reads = tt; only = tt; file = tt; covered = tt;
+      reads = tt;
+      only = tt;
+      file = tt;
+      covered = tt;
       cause = cause_of _ c.in-Ok.bytes c.in-Err-program_of.fault c.in-Ok.ensures.file why;
       within = c.in-Ok.ensures.file.within;
       content = c.in-Ok.ensures.content;
