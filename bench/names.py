@@ -4,15 +4,15 @@
     bench/names.py [PROGRAM]
 
 PROGRAM is the built program, ./fslpp without it. In the first shape a procedure is empty, in the second it calls the
-one before it and has some names of its own, so that the largest file has almost 1 MB. For each shape and number it prints
-the seconds of the best of five runs, less those of an empty `main`, and the ratio to the number before.
+one before it and has some names of its own, so that the largest file has almost 1 MB. For each shape and number it
+prints the seconds of processor time of the best of nine runs, less those of an empty `main`, and the ratio to the
+number before.
 """
 
 import os
 import subprocess
 import sys
 import tempfile
-import time
 from pathlib import Path
 
 COUNTS = (1024, 2048, 4096)
@@ -30,18 +30,18 @@ def full(number):
 
 
 def run(program, path):
-    """Seconds of one run, which must find no fault of names and types."""
-    start = time.perf_counter()
-    done = subprocess.run([program, "check", path], stdout=subprocess.PIPE)
-    seconds = time.perf_counter() - start
-    if not done.stdout.startswith((b"accepted", b"failed", b"refused form")):
-        sys.exit("bench: the program answered %r" % done.stdout)
-    return seconds
+    """Seconds of processor time of one run, which must find no fault of names and types."""
+    child = subprocess.Popen([program, "check", path], stdout=subprocess.PIPE)
+    out = child.stdout.read()
+    _, _, usage = os.wait4(child.pid, 0)
+    if not out.startswith((b"accepted", b"failed", b"refused form")):
+        sys.exit("bench: the program answered %r" % out)
+    return usage.ru_utime + usage.ru_stime
 
 
 def best(program, path, text):
     Path(path).write_text(text)
-    return min(run(program, path) for _ in range(5))
+    return min(run(program, path) for _ in range(9))
 
 
 def main():

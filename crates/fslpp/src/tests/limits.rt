@@ -163,7 +163,7 @@ const COUNTS: [(&str, &str); 22] = [
     ),
     (
         "proc main() { bank g; let n = fetch_add acq(1, 1) with { mint(g, 1); burn(h, 2); }; }",
-        "refused type 1:76 unknown\n",
+        "refused type 1:75 unknown\n",
     ),
 ];
 
@@ -321,14 +321,14 @@ fn repeated(
 #[test]
 fn uses_and_modalities(rt: HostRuntime) {
     for (text, said) in USES {
-        is_answered(&rt, text, said);
+        is_answered(&rt, rt.alloc(), text, said);
     }
 }
 
 #[test]
 fn counts_and_the_first_fault(rt: HostRuntime) {
     for (text, said) in COUNTS {
-        is_answered(&rt, text, said);
+        is_answered(&rt, rt.alloc(), text, said);
     }
 }
 
@@ -336,7 +336,7 @@ fn counts_and_the_first_fault(rt: HostRuntime) {
 fn limits(rt: HostRuntime) -> Result<(), AllocError> {
     for (front, before, after, count, back, said) in LIMITS {
         let text = repeated(rt.alloc(), front, (before, after), count, back)?;
-        is_answered(&rt, text.as_str(), said);
+        is_answered(&rt, rt.alloc(), text.as_str(), said);
     }
     Ok(())
 }

@@ -1,6 +1,9 @@
 //! Refusals, each with its place: tokens, syntax, names, modes and banks. The programs whose answer is `refused form`
 //! are programs, but not straight.
 use super::{expect, run};
+use std::alloc::Global;
+use std::process::Abort;
+use std::thread::Threads;
 
 // Tokens, syntax and nesting, in this order.
 const TEXTS: [(&str, &str); 13] = [
@@ -53,7 +56,7 @@ const TEXTS: [(&str, &str); 13] = [
 const NAMES: [(&str, &str); 27] = [
     (
         "proc main() { let a = 1; print(b); }",
-        "refused type 1:33 unknown\n",
+        "refused type 1:32 unknown\n",
     ),
     ("proc main() { call f(); }", "refused type 1:20 unknown\n"),
     (
@@ -334,29 +337,29 @@ fn status(said: &str) -> u8 {
 }
 
 // That `check` answers a program so.
-pub fn is_answered(rt: &HostRuntime, text: &str, said: &str) {
+pub fn is_answered<R: Threads + Sync + Abort>(rt: &R, alloc: Global, text: &str, said: &str) {
     let words = ["fslpp", "check", "f"];
-    let got = run(rt, rt.alloc(), &words, text.as_bytes(), &[], None);
+    let got = run(rt, alloc, &words, text.as_bytes(), &[], None);
     expect(rt, got, status(said), said);
 }
 
 #[test]
 fn refusals_have_their_places(rt: HostRuntime) {
     for (text, said) in TEXTS {
-        is_answered(&rt, text, said);
+        is_answered(&rt, rt.alloc(), text, said);
     }
 }
 
 #[test]
 fn names_end_with_their_block(rt: HostRuntime) {
     for (text, said) in NAMES {
-        is_answered(&rt, text, said);
+        is_answered(&rt, rt.alloc(), text, said);
     }
 }
 
 #[test]
 fn sorts_and_modes(rt: HostRuntime) {
     for (text, said) in SORTS {
-        is_answered(&rt, text, said);
+        is_answered(&rt, rt.alloc(), text, said);
     }
 }
