@@ -30,7 +30,7 @@ gapped_past a b gap (suc s) k l h =
     line_none _ _ (get_or_past a.terms s (pos 0) (omega arith)) (get_or_past b.terms s (pos 0) (omega arith))
 
 -- the coefficients of a - b + gap, before the zeros at their end go
-apart_terms : Combination → Combination → List ℤ
+abbrev apart_terms : Combination → Combination → List ℤ
 apart_terms a b = joined (λ x y. x +ℤ y) (minus a b).terms []
 
 line_zero : (x y : ℤ) → x ≡ y → x ≡ y +ℤ pos 0
@@ -57,7 +57,7 @@ zeros_at (x ∷ xs) k (suc s) = zeros_at xs k s
 
 zeros_within : (b : ℕ) (xs : List ℤ) (k : ℕ) → are_within b (xs ++ replicate k (pos 0)) ≡ are_within b xs
 zeros_within b [] zero = refl
-zeros_within b [] (suc k) = zeros_within b [] k
+zeros_within b [] (suc k) = grind (arith, zeros_within b [] k)
 zeros_within b (x ∷ xs) k = ap (λ t. is_within b x && t) (zeros_within b xs k)
 
 above_few : (b : ℕ) (xs : List ℤ) (n : Numbers) → length xs ≤ 512 → ((s : ℕ) → n (suc s) ≡ get_or xs s (pos 0)) → within_above b most n ≡ are_within b xs

@@ -17,7 +17,7 @@ use Rattle.fsl_chunk.specs.Lists.{lowered, without, IsListed}
 
 -- ---- numbers of lists
 
-rungs_same : (r s : Rung) → same_rung r s ≡ (rung_number r == rung_number s)
+pub rungs_same : (r s : Rung) → same_rung r s ≡ (rung_number r == rung_number s)
 rungs_same Plain Plain = refl
 rungs_same Plain Up = refl
 rungs_same Plain Down = refl
@@ -68,7 +68,7 @@ own_list k r c =
 
 -- ---- numbers of items
 
-last_number : Bool → ℕ → List ℕ
+abbrev last_number : Bool → ℕ → List ℕ
 last_number true n = n ∷ []
 last_number false n = []
 
@@ -163,7 +163,7 @@ added_listed chunks lists after c h k e = rw e (record {
   many = length-set lists _ _ ∙ h.many;
   each = λ kind rung. added_to lists (list_number (kind_of c) (rung_of c)) (list_number kind rung) (length chunks) (is_of kind rung c) (listed kind rung chunks)
       (rw h.many (list_few (kind_of c) (rung_of c))) (own_list kind rung c) (h.each kind rung)
-    ∙ sym (number_pushed 0 (length chunks) (is_of kind rung) chunks c refl);
+    ∙ sym (number_pushed 0 (length chunks) (is_of kind rung) chunks c (omega arith));
 })
 
 without_at : (gone i : ℕ) (lists : List (List ℕ)) → get_or (map (without gone) lists) i [] ≡ without gone (get_or lists i [])
@@ -177,7 +177,7 @@ removed_listed chunks lists i h k = record {
   few = let l : length (remove chunks i) + 1 ≡ length chunks = length-remove chunks i k in let f : length chunks ≤ 512 = h.few in omega (arith, l, f);
   many = length-map lists (without i) ∙ h.many;
   each = λ kind rung. without_at i (list_number kind rung) lists ∙ ap (without i) (h.each kind rung)
-    ∙ number_gone 0 i i (is_of kind rung) chunks k refl;
+    ∙ number_gone 0 i i (is_of kind rung) chunks k (omega arith);
 }
 
 of_same : (kind : ChunkKind) (rung : Rung) (o : Option Chunk) (c : Chunk) → option_map kind_of o ≡ Some (kind_of c)

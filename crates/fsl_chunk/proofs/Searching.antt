@@ -4,9 +4,11 @@ use Rattle.std.proofs.lemmas.Grind.{common_steps}
 use Rattle.std.specs.Prelude.{if◌then◌else◌, is_some, slice_get}
 use Rattle.fsl_core.specs.declared.chunk.Chunk.{Chunk}
 use Rattle.fsl_core.specs.declared.chunk.Chunk.TheVariants as chunk
+use Rattle.fsl_core.specs.declared.mode.Rung.{Rung}
 use Rattle.fsl_core.specs.logic.Chunks.{Found, found, first, when, same_rung, cell_at, enough_at, init_at, rel_at, rmw_at, tokens_of, authority_of}
 use Rattle.fsl_core.specs.logic.Deciding.{proves_equal, proves_at_most}
 use Rattle.fsl_lin.specs.declared.fact.Fact.{Fact}
+use Rattle.fsl_chunk.specs.declared.kind.ChunkKind.{ChunkKind}
 use Rattle.fsl_chunk.specs.declared.want.Want.{Want}
 use Rattle.fsl_chunk.specs.declared.want.Want.TheVariants as want
 use Rattle.fsl_chunk.specs.Listed.{is_of, numbers_from, listed}
@@ -45,7 +47,7 @@ search_all p test ds (c ∷ cs) n only l =
     search_step p (ds ++ c ∷ cs) (test c) n c (numbers_from (n + 1) test cs) (position_from (n + 1) p cs) (only c) here
         (ap (λ xs. first_in p xs (numbers_from (n + 1) test cs)) (sym (append_assoc ds (c ∷ []) cs)) ∙ later)
 
-shift : ℕ → Option ℕ → Option ℕ
+abbrev shift : ℕ → Option ℕ → Option ℕ
 shift n None = None
 shift n (Some k) = Some (n + k)
 
@@ -151,3 +153,6 @@ number_below : {C : Type 0} (test : C → Bool) (cs : List C) (n m k : ℕ) → 
 number_below test [] n m k e h = absurd (omega (arith, h))
 number_below test (c ∷ cs) n m k e h =
     below_or (test c) n m k (numbers_from (n + 1) test cs) h (omega (arith, e)) (λ j l. number_below test cs (n + 1) m j (omega (arith, e)) l)
+
+pub listed_below : (kind : ChunkKind) (rung : Rung) (cs : List Chunk) (k : ℕ) → k < length (listed kind rung cs) → get_or (listed kind rung cs) k 0 < length cs
+listed_below kind rung cs k h = number_below (is_of kind rung) cs 0 (length cs) k (omega arith) h

@@ -17,7 +17,10 @@ pub fn gap_between(alloc: Global, a: &Lin, gap: &i128, b: &Lin) -> Result<Lin, L
     let _widths = (a.width(), b.width());
     let mut numbers = [0i128; PLACES];
     fill(&mut numbers, a, gap, b);
-    Lin::from_numbers(alloc, &numbers, &1)
+    match Lin::from_numbers(alloc, &numbers, &1) {
+        Ok(t) => Ok(t),
+        Err(fault) => Err(fault),
+    }
 }
 
 /// Writes the numbers of a - b + gap.

@@ -1,5 +1,6 @@
 //! Kinds of chunks.
 ghost use Rattle.std.specs.Prelude.{◌≡◌};
+ghost use Rattle.fsl_core.specs.logic.Chunks.{same_rung};
 ghost use Rattle.fsl_chunk.specs.Listed.{kind_of, rung_of, kind_number, rung_number, list_number};
 
 use fsl_core::{Chunk, Rung};
@@ -70,6 +71,14 @@ fn rung_number(rung: Rung) -> usize
         Rung::Down => 2,
         Rung::Msg => 3,
     }
+}
+
+/// Whether two rungs are the same.
+#[tactic(auto, using(crate::proofs::Listing::rungs_same))]
+pub fn same_rung(rung: Rung, other: Rung) -> bool
+    ensures { result ≡ same_rung rung other }
+{
+    rung_number(rung) == rung_number(other)
 }
 
 /// Which of the heap's lists has the numbers of a kind and a rung.

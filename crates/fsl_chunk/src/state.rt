@@ -1,12 +1,11 @@
 //! The state of a path: the terms of its variables, what is assumed, and what is owned. Calls that may end the
 //! path take the state by value, and nothing of it is left for want of memory.
-ghost use Rattle.std.specs.Prelude.{◌≡◌, ◌<◌, ◌^◌, [], ◌∷◌, Some, pos, false, length, remove, slice_get, slice_set, if◌then◌else◌, IfOk, IfSome, OnOk, OnErr, IsErrOf, IsOk, IsErr};
+ghost use Rattle.std.specs.Prelude.{◌≡◌, ◌<◌, ◌^◌, [], ◌∷◌, Some, pos, false, length, remove, slice_get, slice_set, if◌then◌else◌, IfOk, IfSome, OnOk, OnErr};
 ghost use Rattle.std.specs.Option.{option_map};
 ghost use Rattle.fsl_lin.specs.Facts.{absurd_facts};
 ghost use Rattle.fsl_lin.specs.Sizes.{IsSize};
 ghost use Rattle.fsl_lin.specs.declared.fact.Fact.TheVariants.{Le, Is};
-ghost use Rattle.fsl_core.specs.logic.States.{goes, fails, new_symbol, set};
-ghost use Rattle.fsl_core.specs.declared.verdict.Kind.TheVariants.{Term};
+ghost use Rattle.fsl_core.specs.logic.States.{goes, new_symbol, set};
 ghost use Rattle.fsl_core.specs.logic.Deciding.{proves_at_most, proves_equal, assume, assume_at_most, assume_equal};
 ghost use Rattle.fsl_core.specs.logic.Chunks.{add};
 ghost use Rattle.fsl_chunk.specs.Branches.{branches, branches_made};
@@ -136,8 +135,13 @@ impl State {
     {
         let State { env, pure, heap } = self;
         let mut pure = pure;
-        let taken = pure.assume_le(alloc, t);
-        went(env, pure, heap, taken)
+        let _width = t.width();
+        match pure.assume_le(alloc, t) {
+            Ok(()) => Ok(settled(env, pure, heap)),
+            Err(PureFault::Wide) => Ok(Went::Fails { kind: Kind::Term }),
+            Err(PureFault::NoMemory) => Err(AllocError),
+            Err(PureFault::Full) => unreachable!(),
+        }
     }
 
     /// Assumes that a term is 0.
@@ -146,8 +150,13 @@ impl State {
     {
         let State { env, pure, heap } = self;
         let mut pure = pure;
-        let taken = pure.assume_eq(alloc, t);
-        went(env, pure, heap, taken)
+        let _width = t.width();
+        match pure.assume_eq(alloc, t) {
+            Ok(()) => Ok(settled(env, pure, heap)),
+            Err(PureFault::Wide) => Ok(Went::Fails { kind: Kind::Term }),
+            Err(PureFault::NoMemory) => Err(AllocError),
+            Err(PureFault::Full) => unreachable!(),
+        }
     }
 
     /// Assumes that a + gap <= b, for a gap of at most 2^90 in size.
@@ -216,20 +225,15 @@ impl State {
     }
 }
 
-/// What came of assuming a fact, by what `Pure` made of it.
-fn went(env: Env, pure: Pure, heap: Heap, taken: Result<(), PureFault>) -> Result<Went, AllocError>
-    requires { IsErrOf taken PureFault.Full → ⊥ }
-    ensures goes { IsOk taken → IfOk result (λ went. branches went ≡ (if absurd_facts pure.facts then [] else goes tt (record { env = env; facts = pure.facts; chunks = heap; next = pure.symbols }) ∷ [])) }
-    ensures fails { IsErrOf taken PureFault.Wide → IfOk result (λ went. branches went ≡ fails Term ∷ []) }
-    ensures no_memory { IsErrOf taken PureFault.NoMemory → IsErr result }
+/// A fact was assumed: there is a branch unless the facts are absurd now.
+fn settled(env: Env, pure: Pure, heap: Heap) -> Went
+    ensures { branches result ≡ (if absurd_facts pure.facts then [] else goes tt (record { env = env; facts = pure.facts; chunks = heap; next = pure.symbols }) ∷ []) }
 {
-    match taken {
-        Ok(()) if pure.absurd() => Ok(Went::Gone),
-        Ok(()) => Ok(Went::Goes {
+    if pure.absurd() {
+        Went::Gone
+    } else {
+        Went::Goes {
             state: State { env, pure, heap },
-        }),
-        Err(PureFault::Wide) => Ok(Went::Fails { kind: Kind::Term }),
-        Err(PureFault::NoMemory) => Err(AllocError),
-        Err(PureFault::Full) => unreachable!(),
+        }
     }
 }
