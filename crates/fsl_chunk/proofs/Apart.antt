@@ -85,5 +85,5 @@ pub apart_fits : (a b : Combination) (gap : ℤ) → IsKept a → IsKept b
     → is_narrow (plus (minus a b) (constant gap)) ≡ fits (gapped (part a) (part b) gap)
 apart_fits a b gap k l =
     ap (λ t. t && is_within (2 ^ 90) ((a.rest -ℤ b.rest) +ℤ gap))
-        (trim_within (2 ^ 24) (apart_terms a b) ∙ sym (above_few (2 ^ 24) (apart_terms a b) (gapped (part a) (part b) gap) (few_apart a b k l) (apart_at a b)))
+    (trim_within (2 ^ 24) (apart_terms a b) ∙ sym (above_few (2 ^ 24) (apart_terms a b) (gapped (part a) (part b) gap) (few_apart a b k l) (apart_at a b)))
     ∙ and_turn (within_above (2 ^ 24) most (gapped (part a) (part b) gap)) (is_within (2 ^ 90) ((a.rest -ℤ b.rest) +ℤ gap))

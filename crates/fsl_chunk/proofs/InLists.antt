@@ -31,7 +31,7 @@ one_gone gone (suc i) (n ∷ ns) h e = ap (λ ms. n ∷ ms) (one_gone gone i ns 
 
 set_lowered : (gone i : ℕ) (ns : List ℕ) → i < length ns → (get_or ns i 0 ≡ gone → ⊥)
     → take (suc i) (slice_set ns i (lowered gone (get_or ns i 0))) ++ without gone (drop (suc i) (slice_set ns i (lowered gone (get_or ns i 0))))
-      ≡ take i ns ++ without gone (drop i ns)
+    ≡ take i ns ++ without gone (drop i ns)
 set_lowered gone i [] h e = absurd (omega arith)
 set_lowered gone zero (n ∷ ns) h e = grind (arith, common_steps)
 set_lowered gone (suc i) (n ∷ ns) h e = ap (λ ms. n ∷ ms) (set_lowered gone i ns (omega arith) e)
@@ -39,5 +39,5 @@ set_lowered gone (suc i) (n ∷ ns) h e = ap (λ ms. n ∷ ms) (set_lowered gone
 -- another one stays, one less where it is greater
 pub one_lowered : (gone i : ℕ) (ns : List ℕ) → i < length ns → (get_or ns i 0 ≡ gone → ⊥)
     → take (i + 1) (slice_set ns i (lowered gone (get_or ns i 0))) ++ without gone (drop (i + 1) (slice_set ns i (lowered gone (get_or ns i 0))))
-      ≡ take i ns ++ without gone (drop i ns)
+    ≡ take i ns ++ without gone (drop i ns)
 one_lowered gone i ns h e = rw add-one (set_lowered gone i ns h e)

@@ -12,8 +12,8 @@ use Rattle.fsl_core.specs.declared.mode.Rung.TheVariants.{Plain, Up, Down, Msg}
 use Rattle.fsl_core.specs.logic.Chunks.{same_rung}
 use Rattle.fsl_chunk.specs.declared.kind.ChunkKind.{ChunkKind}
 use Rattle.fsl_chunk.specs.declared.kind.ChunkKind.TheVariants.{Points, Init, Rel, Acq, RmwAcq, Tok, Auth}
-use Rattle.fsl_chunk.specs.Listed.{kind_of, rung_of, kind_number, rung_number, list_number, is_of, numbers_from, listed}
-use Rattle.fsl_chunk.specs.Lists.{lowered, without, IsListed}
+use Rattle.fsl_chunk.specs.Listed.{kind_of, rung_of, kind_number, is_of, numbers_from, listed}
+use Rattle.fsl_chunk.specs.Lists.{rung_number, list_number, without, IsListed}
 
 -- ---- numbers of lists
 
@@ -85,7 +85,7 @@ number_pushed : {C : Type 0} (n m : ℕ) (test : C → Bool) (cs : List C) (c : 
 number_pushed n m test [] c h = let e : n ≡ m = omega (arith, h) in rw e (push_end (test c) m)
 number_pushed n m test (x ∷ cs) c h =
     push_step (test x) n (numbers_from (n + 1) test (cs ++ c ∷ [])) (numbers_from (n + 1) test cs) (last_number (test c) m)
-        (number_pushed (n + 1) m test cs c (omega (arith, h)))
+    (number_pushed (n + 1) m test cs c (omega (arith, h)))
 
 same_step : (a b : Bool) (n : ℕ) (xs ys : List ℕ) → a ≡ b → xs ≡ ys → (if a then n ∷ xs else xs) ≡ (if b then n ∷ ys else ys)
 same_step true true n xs ys h k = ap (λ ns. n ∷ ns) k
@@ -134,7 +134,7 @@ number_gone n gone zero test (c ∷ cs) h e =
     rw q (gone_step (test c) n (numbers_from (n + 1) test cs) (numbers_from n test cs) (all_lower n n test cs (omega arith)))
 number_gone n gone (suc i) test (c ∷ cs) h e =
     below_step (test c) gone n (numbers_from (n + 1) test cs) (numbers_from (n + 1) test (remove cs i)) (omega (arith, e))
-        (number_gone (n + 1) gone i test cs (omega (arith, h)) (omega (arith, e)))
+    (number_gone (n + 1) gone i test cs (omega (arith, h)) (omega (arith, e)))
 
 -- ---- lists of the heap
 
@@ -163,7 +163,7 @@ added_listed chunks lists after c h k e = rw e (record {
   many = length-set lists _ _ ∙ h.many;
   each = λ kind rung. added_to lists (list_number (kind_of c) (rung_of c)) (list_number kind rung) (length chunks) (is_of kind rung c) (listed kind rung chunks)
       (rw h.many (list_few (kind_of c) (rung_of c))) (own_list kind rung c) (h.each kind rung)
-    ∙ sym (number_pushed 0 (length chunks) (is_of kind rung) chunks c (omega arith));
+      ∙ sym (number_pushed 0 (length chunks) (is_of kind rung) chunks c (omega arith));
 })
 
 without_at : (gone i : ℕ) (lists : List (List ℕ)) → get_or (map (without gone) lists) i [] ≡ without gone (get_or lists i [])
@@ -177,7 +177,7 @@ removed_listed chunks lists i h k = record {
   few = let l : length (remove chunks i) + 1 ≡ length chunks = length-remove chunks i k in let f : length chunks ≤ 512 = h.few in omega (arith, l, f);
   many = length-map lists (without i) ∙ h.many;
   each = λ kind rung. without_at i (list_number kind rung) lists ∙ ap (without i) (h.each kind rung)
-    ∙ number_gone 0 i i (is_of kind rung) chunks k (omega arith);
+      ∙ number_gone 0 i i (is_of kind rung) chunks k (omega arith);
 }
 
 of_same : (kind : ChunkKind) (rung : Rung) (o : Option Chunk) (c : Chunk) → option_map kind_of o ≡ Some (kind_of c)

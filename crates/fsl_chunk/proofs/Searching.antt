@@ -45,7 +45,7 @@ search_all p test ds (c ∷ cs) n only l =
     let longer : length (ds ++ c ∷ []) ≡ n + 1 = grind (arith, common_steps) in
     let later : first_in p ((ds ++ c ∷ []) ++ cs) (numbers_from (n + 1) test cs) ≡ position_from (n + 1) p cs = search_all p test (ds ++ c ∷ []) cs (n + 1) only longer in
     search_step p (ds ++ c ∷ cs) (test c) n c (numbers_from (n + 1) test cs) (position_from (n + 1) p cs) (only c) here
-        (ap (λ xs. first_in p xs (numbers_from (n + 1) test cs)) (sym (append_assoc ds (c ∷ []) cs)) ∙ later)
+    (ap (λ xs. first_in p xs (numbers_from (n + 1) test cs)) (sym (append_assoc ds (c ∷ []) cs)) ∙ later)
 
 abbrev shift : ℕ → Option ℕ → Option ℕ
 shift n None = None

@@ -1,9 +1,9 @@
 -- The numbers of the chunks of a kind and a rung.
-use Rattle.std.specs.Prelude.{ℕ, ◌+◌, ◌*◌, ◌==◌, Bool, ◌&&◌, List, [], ◌∷◌, if◌then◌else◌}
+use Rattle.std.specs.Prelude.{ℕ, ◌+◌, ◌==◌, Bool, ◌&&◌, List, [], ◌∷◌, if◌then◌else◌}
 use Rattle.fsl_core.specs.declared.chunk.Chunk.{Chunk}
 use Rattle.fsl_core.specs.declared.chunk.Chunk.TheVariants as chunk
 use Rattle.fsl_core.specs.declared.mode.Rung.{Rung}
-use Rattle.fsl_core.specs.declared.mode.Rung.TheVariants.{Plain, Up, Down, Msg}
+use Rattle.fsl_core.specs.declared.mode.Rung.TheVariants.{Plain}
 use Rattle.fsl_core.specs.logic.Chunks.{same_rung}
 use Rattle.fsl_chunk.specs.declared.kind.ChunkKind.{ChunkKind}
 use Rattle.fsl_chunk.specs.declared.kind.ChunkKind.TheVariants.{Points, Init, Rel, Acq, RmwAcq, Tok, Auth}
@@ -32,16 +32,6 @@ kind_number Acq = 3
 kind_number RmwAcq = 4
 kind_number Tok = 5
 kind_number Auth = 6
-
-abbrev pub rung_number : Rung → ℕ
-rung_number Plain = 0
-rung_number Up = 1
-rung_number Down = 2
-rung_number Msg = 3
-
--- 4 rungs for each kind
-abbrev pub list_number : ChunkKind → Rung → ℕ
-list_number kind rung = 4 * kind_number kind + rung_number rung
 
 abbrev pub is_of : ChunkKind → Rung → Chunk → Bool
 is_of kind rung c = kind_number (kind_of c) == kind_number kind && same_rung (rung_of c) rung

@@ -1,9 +1,20 @@
 -- What the heap keeps beside its chunks: a list of their numbers for each kind and rung.
-use Rattle.std.specs.Prelude.{◌≡◌, ℕ, ◌-◌, ◌≤◌, ◌==◌, List, [], ◌∷◌, length, get_or, nat_lt, if◌then◌else◌}
+use Rattle.std.specs.Prelude.{◌≡◌, ℕ, ◌+◌, ◌-◌, ◌*◌, ◌≤◌, ◌==◌, List, [], ◌∷◌, length, get_or, nat_lt, if◌then◌else◌}
 use Rattle.fsl_core.specs.declared.chunk.Chunk.{Chunk}
 use Rattle.fsl_core.specs.declared.mode.Rung.{Rung}
+use Rattle.fsl_core.specs.declared.mode.Rung.TheVariants.{Plain, Up, Down, Msg}
 use Rattle.fsl_chunk.specs.declared.kind.ChunkKind.{ChunkKind}
-use Rattle.fsl_chunk.specs.Listed.{listed, list_number}
+use Rattle.fsl_chunk.specs.Listed.{listed, kind_number}
+
+abbrev pub rung_number : Rung → ℕ
+rung_number Plain = 0
+rung_number Up = 1
+rung_number Down = 2
+rung_number Msg = 3
+
+-- 4 rungs for each kind
+abbrev pub list_number : ChunkKind → Rung → ℕ
+list_number kind rung = 4 * kind_number kind + rung_number rung
 
 -- a number once another one is gone
 abbrev pub lowered : ℕ → ℕ → ℕ

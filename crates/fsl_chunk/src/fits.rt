@@ -12,7 +12,7 @@ use fsl_lin::Lin;
 use fsl_pure::Pure;
 
 /// The kind of the chunks that can fit.
-pub fn kind_sought(want: &Want<'_>) -> ChunkKind
+pub fn kind_sought(want: &Want<'_, '_>) -> ChunkKind
     ensures { result ≡ kind_sought want.now }
 {
     match *want {
@@ -26,17 +26,18 @@ pub fn kind_sought(want: &Want<'_>) -> ChunkKind
 }
 
 /// The rung of the chunks that can fit.
-pub fn rung_sought(want: &Want<'_>) -> Rung
+pub fn rung_sought(want: &Want<'_, '_>) -> Rung
     ensures { result ≡ rung_sought want.now }
 {
     match *want {
         Want::Points { rung, .. } | Want::Enough { rung, .. } | Want::Init { rung, .. } => rung,
-        Want::Rel { .. } | Want::RmwAcq { .. } | Want::Tok { .. } | Want::Auth { .. } => Rung::Plain,
+        Want::Rel { .. } | Want::RmwAcq { .. } | Want::Tok { .. } | Want::Auth { .. } =>
+            Rung::Plain,
     }
 }
 
 /// Whether a chunk fits.
-pub fn fits(pure: &Pure, want: &Want<'_>, chunk: &Chunk) -> bool
+pub fn fits(pure: &Pure, want: &Want<'_, '_>, chunk: &Chunk) -> bool
     requires { absurd_facts pure.now.facts ≡ false }
     ensures { result ≡ fits want.now pure.now.facts chunk.now }
 {
@@ -142,15 +143,7 @@ fn stands_at(pure: &Pure, held: Rung, a: &Lin, rung: Rung, at: &Lin) -> bool
 }
 
 /// Whether a cell of this rung and address stands there, with at least this share.
-fn holds(
-    pure: &Pure,
-    held: Rung,
-    a: &Lin,
-    has: &Lin,
-    rung: Rung,
-    at: &Lin,
-    share: &Lin,
-) -> bool
+fn holds(pure: &Pure, held: Rung, a: &Lin, has: &Lin, rung: Rung, at: &Lin, share: &Lin) -> bool
     requires { absurd_facts pure.now.facts ≡ false }
     ensures { result ≡ (same_rung held rung && (proves_equal pure.now.facts a.now at.now && proves_at_most pure.now.facts share.now (pos 0) has.now)) }
 {

@@ -73,7 +73,7 @@ impl Heap {
     }
 
     /// The number of the first chunk that fits. It takes no memory.
-    pub fn find(&self, pure: &Pure, want: &Want<'_>) -> Option<u32>
+    pub fn find(&self, pure: &Pure, want: &Want<'_, '_>) -> Option<u32>
         requires { absurd_facts pure.now.facts ≡ false }
         ensures first { result ≡ sought want.now pure.now.facts self.now }
         ensures within { IfSome result (λ number. number < length self.now) }

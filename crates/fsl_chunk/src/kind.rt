@@ -1,7 +1,8 @@
 //! Kinds of chunks.
 ghost use Rattle.std.specs.Prelude.{◌≡◌};
 ghost use Rattle.fsl_core.specs.logic.Chunks.{same_rung};
-ghost use Rattle.fsl_chunk.specs.Listed.{kind_of, rung_of, kind_number, rung_number, list_number};
+ghost use Rattle.fsl_chunk.specs.Listed.{kind_of, rung_of, kind_number};
+ghost use Rattle.fsl_chunk.specs.Lists.{rung_number, list_number};
 
 use fsl_core::{Chunk, Rung};
 

@@ -94,7 +94,7 @@ impl State {
     }
 
     /// The number of the first chunk that fits. It takes no memory.
-    pub fn find(&self, want: &Want<'_>) -> Option<u32>
+    pub fn find(&self, want: &Want<'_, '_>) -> Option<u32>
         ensures first { result ≡ sought want.now self.now.facts self.now.chunks }
         ensures within { IfSome result (λ number. number < length self.now.chunks) }
     {
@@ -160,7 +160,13 @@ impl State {
     }
 
     /// Assumes that a + gap <= b, for a gap of at most 2^90 in size.
-    pub fn assume_at_most(self, alloc: Global, a: &Lin, gap: i128, b: &Lin) -> Result<Went, AllocError>
+    pub fn assume_at_most(
+        self,
+        alloc: Global,
+        a: &Lin,
+        gap: i128,
+        b: &Lin,
+    ) -> Result<Went, AllocError>
         requires { IsSize (2 ^ 90) gap }
         ensures { IfOk result (λ went. branches went ≡ assume_at_most a.now gap b.now self) }
     {

@@ -4,7 +4,7 @@ use fsl_lin::Lin;
 
 /// A chunk that is sought. Addresses and banks fit where they are proved equal.
 #[derive(Clone, Copy)]
-pub enum Want<'a> {
+pub enum Want<'a, 's> {
     /// A share of a cell.
     Points {
         rung: Rung,
@@ -14,7 +14,7 @@ pub enum Want<'a> {
     Enough {
         rung: Rung,
         at: &'a Lin,
-        share: &'a Lin,
+        share: &'s Lin,
     },
     Init {
         rung: Rung,

@@ -7,27 +7,18 @@ use fsl_lin::Lin;
 #[derive(Drop)]
 pub enum Went {
     /// It goes on with this state.
-    Goes {
-        state: State,
-    },
+    Goes { state: State },
     /// The facts contradict each other, so there is no branch.
     Gone,
     /// The path fails.
-    Fails {
-        kind: Kind,
-    },
+    Fails { kind: Kind },
 }
 
 /// What came of making a symbol.
 #[derive(Drop)]
 pub enum Made {
     /// The symbol, and the state with it.
-    Goes {
-        state: State,
-        symbol: Lin,
-    },
+    Goes { state: State, symbol: Lin },
     /// The path fails.
-    Fails {
-        kind: Kind,
-    },
+    Fails { kind: Kind },
 }

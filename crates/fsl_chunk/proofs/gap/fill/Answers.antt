@@ -16,6 +16,6 @@ pub returns : goal.returns
 returns c =
     let whole : length c.loop-i.numbers ≤ c.loop-i.i = omega arith in
     let each = in_place_end c.loop-i.invariant whole
-      (λ j h. gapped_past c.args.a.now c.args.b.now c.args.gap.now j c.width.ensures.kept c.width-2.ensures.kept
-        (let l = c.loop-i.invariant.long in let s = c.requires.whole in omega arith)) in
+    (λ j h. gapped_past c.args.a.now c.args.b.now c.args.gap.now j c.width.ensures.kept c.width-2.ensures.kept
+    (let l = c.loop-i.invariant.long in let s = c.requires.whole in omega arith)) in
     λ i j. each j i

@@ -7,4 +7,4 @@ invariant_of-self c =
     let same : c.self.inside.chunks.items ≡ c.args.self.now = c.self.view_is in
     let by : c.in_ok-by.by ≡ c.args.by = c.in_ok-by.ensures in
     rw by (replaced_listed c.self.inside.chunks.items c.self.inside.numbers c.args.number c.args.by c.self.invariant
-      (rw same c.requires.same_kind) (rw same c.requires.same_rung))
+    (rw same c.requires.same_kind) (rw same c.requires.same_rung))
