@@ -109,6 +109,22 @@ impl State {
         self.env.set(alloc, slot, term)
     }
 
+    /// Puts other variables in the place of the procedure's.
+    pub fn set_env(&mut self, env: Env)
+        ensures { self.new ≡ record self.old { env = env } }
+    {
+        self.env = env;
+    }
+
+    /// Lets go of all chunks. For want of memory nothing changes.
+    pub fn drop_chunks(&mut self, alloc: Global) -> Result<(), AllocError>
+        ensures dropped { OnOk result (self.new ≡ record self.old { chunks = [] }) }
+        ensures kept { OnErr result (self.new ≡ self.old) }
+    {
+        self.heap = Heap::new(alloc)?;
+        Ok(())
+    }
+
     /// A new symbol.
     pub fn new_symbol(self, alloc: Global) -> Result<Made, AllocError>
         ensures { IfOk result (λ made. branches_made made ≡ new_symbol self) }

@@ -1,15 +1,18 @@
-//! Tests of what no clause says: that calls come to an end where there is memory, on a few chunks and facts.
+//! Tests of what no clause says: that calls find memory where there is some, on a few chunks and facts.
 use crate::{ChunkKind, Env, Heap, HeapFault, Made, State, Want, Went};
 use fsl_core::{Chunk, Kind, Rung};
-use fsl_lin::{Lin, LinFault};
-use fsl_pure::Pure;
+use fsl_lin::{Lin, LinFault, Sym};
 use std::alloc::{AllocError, Global};
 
-fn number(alloc: Global, n: i128) -> Result<Lin, AllocError> {
-    match Lin::constant(alloc, n) {
+fn known(made: Result<Lin, LinFault>) -> Result<Lin, AllocError> {
+    match made {
         Ok(lin) => Ok(lin),
         Err(_) => Err(AllocError),
     }
+}
+
+fn number(alloc: Global, n: i128) -> Result<Lin, AllocError> {
+    known(Lin::constant(alloc, n))
 }
 
 fn cell(alloc: Global, at: i128, share: i128) -> Result<Chunk, AllocError> {
@@ -23,21 +26,24 @@ fn cell(alloc: Global, at: i128, share: i128) -> Result<Chunk, AllocError> {
     })
 }
 
-fn init(alloc: Global, at: i128) -> Result<Chunk, AllocError> {
+fn add_cell(alloc: Global, heap: &mut Heap, at: i128, share: i128) -> Result<(), HeapFault> {
+    let cell = cell(alloc, at, share)?;
+    heap.add(alloc, cell)
+}
+
+fn add_init(alloc: Global, heap: &mut Heap, at: i128) -> Result<(), HeapFault> {
     let at = number(alloc, at)?;
-    Ok(Chunk::Init {
-        rung: Rung::Plain,
-        at,
-    })
+    let rung = Rung::Plain;
+    heap.add(alloc, Chunk::Init { rung, at })
 }
 
 // Cells at 1, 2 and 1, and an `Init` before the last of them.
 fn owned(alloc: Global) -> Result<Heap, HeapFault> {
     let mut heap = Heap::new(alloc)?;
-    heap.add(alloc, cell(alloc, 1, 5)?)?;
-    heap.add(alloc, cell(alloc, 2, 5)?)?;
-    heap.add(alloc, init(alloc, 1)?)?;
-    heap.add(alloc, cell(alloc, 1, 9)?)?;
+    add_cell(alloc, &mut heap, 1, 5)?;
+    add_cell(alloc, &mut heap, 2, 5)?;
+    add_init(alloc, &mut heap, 1)?;
+    add_cell(alloc, &mut heap, 1, 9)?;
     Ok(heap)
 }
 
@@ -45,42 +51,54 @@ fn owned(alloc: Global) -> Result<Heap, HeapFault> {
 fn lists_the_chunks_of_a_kind(rt: HostRuntime) -> Result<(), HeapFault> {
     let alloc = rt.alloc();
     let mut heap = owned(alloc)?;
-    assert_eq!(rt; heap.listed(ChunkKind::Points, Rung::Plain), [0, 1, 3].as_slice());
+    let before = heap.fork(alloc)?;
+    assert_eq!(rt;
+        heap.listed(ChunkKind::Points, Rung::Plain),
+        [0, 1, 3].as_slice()
+    );
     assert_eq!(rt; heap.listed(ChunkKind::Init, Rung::Plain), [2].as_slice());
     assert!(rt; heap.listed(ChunkKind::Points, Rung::Up).is_empty());
-    let before = heap.fork(alloc)?;
     if heap.len() == 4 {
         let _first = heap.remove(0);
     }
-    assert_eq!(rt; heap.listed(ChunkKind::Points, Rung::Plain), [0, 2].as_slice());
+    assert_eq!(rt;
+        heap.listed(ChunkKind::Points, Rung::Plain),
+        [0, 2].as_slice()
+    );
     assert_eq!(rt; before.len(), 4);
     Ok(())
 }
 
-#[test]
-fn finds_the_first_chunk_that_fits(rt: HostRuntime) -> Result<(), HeapFault> {
-    let alloc = rt.alloc();
-    let heap = owned(alloc)?;
-    let pure = Pure::new(alloc)?;
-    let at = number(alloc, 1)?;
-    let share = number(alloc, 7)?;
-    let rung = Rung::Plain;
-    if !pure.absurd() {
-        assert_eq!(rt; heap.find(&pure, &Want::Points { rung, at: &at }), Some(0));
-        assert_eq!(rt;
-            heap.find(
-                &pure,
-                &Want::Enough {
-                    rung,
-                    at: &at,
-                    share: &share
-                }
-            ),
-            Some(3)
-        );
-        assert_eq!(rt; heap.find(&pure, &Want::Init { rung, at: &at }), Some(2));
-        assert_eq!(rt; heap.find(&pure, &Want::Tok { bank: &at }), None);
+// A state without variables that owns these cells.
+fn state_with(alloc: Global, cells: &[(i128, i128)]) -> Result<State, AllocError> {
+    let mut state = State::new(alloc, Env::new(alloc))?;
+    for (at, share) in cells {
+        let cell = cell(alloc, *at, *share)?;
+        match state.add(alloc, cell)? {
+            Went::Goes { state: next } => state = next,
+            _ => return Err(AllocError),
+        }
     }
+    Ok(state)
+}
+
+#[test]
+fn finds_the_first_chunk_that_fits(rt: HostRuntime) -> Result<(), AllocError> {
+    let alloc = rt.alloc();
+    let state = state_with(alloc, &[(1, 5), (2, 5), (1, 9)])?;
+    let one = number(alloc, 1)?;
+    let seven = number(alloc, 7)?;
+    let rung = Rung::Plain;
+    let any = Want::Points { rung, at: &one };
+    assert_eq!(rt; state.find(&any), Some(0));
+    let enough = Want::Enough {
+        rung,
+        at: &one,
+        share: &seven,
+    };
+    assert_eq!(rt; state.find(&enough), Some(2));
+    let none = Want::Tok { bank: &one };
+    assert_eq!(rt; state.find(&none), None);
     Ok(())
 }
 
@@ -94,41 +112,45 @@ fn came(went: &Went) -> u32 {
     }
 }
 
+// A state that knows of its one symbol that it is less than 3.
+fn below_three(alloc: Global) -> Result<Went, AllocError> {
+    let state = State::new(alloc, Env::new(alloc))?;
+    match state.new_symbol(alloc)? {
+        Made::Goes { state, symbol } => {
+            let three = number(alloc, 3)?;
+            state.assume_at_most(alloc, &symbol, 1, &three)
+        }
+        Made::Fails { kind } => Ok(Went::Fails { kind }),
+    }
+}
+
+// What comes of assuming that the symbol is n.
+fn equal_to(alloc: Global, n: i128) -> Result<u32, AllocError> {
+    let Went::Goes { state } = below_three(alloc)? else {
+        return Err(AllocError);
+    };
+    let symbol = known(Lin::symbol(alloc, Sym(0)))?;
+    let n = number(alloc, n)?;
+    let went = state.assume_equal(alloc, &symbol, &n)?;
+    Ok(came(&went))
+}
+
 #[test]
 fn assumes_until_the_facts_are_absurd(rt: HostRuntime) -> Result<(), AllocError> {
     let alloc = rt.alloc();
-    let state = State::new(alloc, Env::new(alloc))?;
-    let Made::Goes { state, symbol } = state.new_symbol(alloc)? else {
-        return Err(AllocError);
-    };
-    let three = number(alloc, 3)?;
-    let wide = number(alloc, 1 << 90)?;
-    assert_eq!(rt;
-        came(&state.fork(alloc)?.assume_at_most(alloc, &wide, 1, &three)?),
-        2
-    );
-    let Went::Goes { state } = state.assume_at_most(alloc, &symbol, 1, &three)? else {
-        return Err(AllocError);
-    };
-    assert!(rt; state.proves_at_most(&symbol, 1, &three));
-    assert_eq!(rt;
-        came(&state.fork(alloc)?.assume_equal(alloc, &symbol, &three)?),
-        1
-    );
-    assert_eq!(rt; came(&state.add(alloc, cell(alloc, 1, 5)?)?), 0);
+    assert_eq!(rt; equal_to(alloc, 2)?, 0);
+    assert_eq!(rt; equal_to(alloc, 3)?, 1);
     Ok(())
 }
 
 #[test]
-fn sets_a_variable(rt: HostRuntime) -> Result<(), AllocError> {
+fn sets_a_variable_of_one_copy(rt: HostRuntime) -> Result<(), AllocError> {
     let alloc = rt.alloc();
     let mut env = Env::new(alloc);
     env.push(alloc, number(alloc, 0)?)?;
+    let before = env.fork(alloc)?;
     env.set(alloc, 0, number(alloc, 4)?)?;
-    match env.get(0) {
-        Some(term) => assert_eq!(rt; term.rest(), 4),
-        None => assert!(rt; false),
-    }
-    assert!(rt; env.get(1).is_none());
+    assert_eq!(rt; env.get(0).map(|term| term.rest()), Some(4));
+    assert_eq!(rt; before.last().map(|term| term.rest()), Some(0));
     Ok(())
 }
