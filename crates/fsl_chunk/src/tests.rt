@@ -82,23 +82,34 @@ fn state_with(alloc: Global, cells: &[(i128, i128)]) -> Result<State, AllocError
     Ok(state)
 }
 
+fn found_at(alloc: Global, state: &State, at: i128) -> Result<Option<u32>, AllocError> {
+    let at = number(alloc, at)?;
+    let rung = Rung::Plain;
+    Ok(state.find(&Want::Points { rung, at: &at }))
+}
+
+fn found_with(
+    alloc: Global,
+    state: &State,
+    at: i128,
+    share: i128,
+) -> Result<Option<u32>, AllocError> {
+    let at = number(alloc, at)?;
+    let share = number(alloc, share)?;
+    Ok(state.find(&Want::Enough {
+        rung: Rung::Plain,
+        at: &at,
+        share: &share,
+    }))
+}
+
 #[test]
 fn finds_the_first_chunk_that_fits(rt: HostRuntime) -> Result<(), AllocError> {
     let alloc = rt.alloc();
     let state = state_with(alloc, &[(1, 5), (2, 5), (1, 9)])?;
-    let one = number(alloc, 1)?;
-    let seven = number(alloc, 7)?;
-    let rung = Rung::Plain;
-    let any = Want::Points { rung, at: &one };
-    assert_eq!(rt; state.find(&any), Some(0));
-    let enough = Want::Enough {
-        rung,
-        at: &one,
-        share: &seven,
-    };
-    assert_eq!(rt; state.find(&enough), Some(2));
-    let none = Want::Tok { bank: &one };
-    assert_eq!(rt; state.find(&none), None);
+    assert_eq!(rt; found_at(alloc, &state, 1)?, Some(0));
+    assert_eq!(rt; found_at(alloc, &state, 3)?, None);
+    assert_eq!(rt; found_with(alloc, &state, 1, 7)?, Some(2));
     Ok(())
 }
 
