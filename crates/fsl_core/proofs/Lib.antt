@@ -1,3 +1,7 @@
 pub mod Distinct
+pub mod JudgedCells
+pub mod JudgedFences
+pub mod JudgedMessages
+pub mod JudgedUpdates
 pub mod Parts
 pub mod Quick

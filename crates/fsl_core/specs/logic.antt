@@ -2,6 +2,7 @@ pub mod States
 pub mod Terms
 pub mod Deciding
 pub mod Chunks
+pub mod Joining
 pub mod Producing
 pub mod Consuming
 pub mod Messages
@@ -16,3 +17,11 @@ pub mod Slots
 pub mod Paths
 pub mod Verdicts
 pub mod Words
+pub mod ExampleCells
+pub mod JudgedCells
+pub mod ExampleMessages
+pub mod JudgedMessages
+pub mod ExampleFences
+pub mod JudgedFences
+pub mod ExampleUpdates
+pub mod JudgedUpdates

@@ -11,6 +11,7 @@ mod copy_expr;
 mod copy_program;
 mod expr;
 mod label;
+pub mod laws;
 mod mode;
 mod need;
 mod program;

@@ -1,5 +1,5 @@
 -- The rules of allocations, loads, stores and frees.
-use Rattle.std.specs.Prelude.{ℕ, ◌+◌, Bool, true, false, ◌&&◌, List, [], ◌∷◌, ◌++◌, Option, Some, None, pos, slice_set, slice_get, if◌then◌else◌}
+use Rattle.std.specs.Prelude.{ℕ, ◌+◌, Bool, true, false, List, [], ◌∷◌, ◌++◌, Some, None, pos, slice_set, slice_get, if◌then◌else◌}
 use Rattle.fsl_core.specs.declared.chunk.Chunk.{Chunk}
 use Rattle.fsl_core.specs.declared.chunk.Chunk.TheVariants as chunk
 use Rattle.fsl_core.specs.declared.mode.Mode.{Mode}
@@ -11,9 +11,11 @@ use Rattle.fsl_core.specs.logic.States.{Rule, Action, ◌>>=◌, ◌>>◌, give,
 use Rattle.fsl_core.specs.logic.Terms.{Expression, term, terms}
 use Rattle.fsl_core.specs.logic.Deciding.{proves_equal, assume_at_most, decide_equal, each_side}
 use Rattle.fsl_core.specs.logic.Chunks.{Found, find_or, put, take, add, Cell, Leave, leave, Permission, cell_at, init_at, rel_at}
-use Rattle.fsl_core.specs.logic.Producing.{full, chosen, Instance, produce_init}
+use Rattle.fsl_core.specs.logic.Joining.{full, produce_init}
+use Rattle.fsl_core.specs.logic.Producing.{chosen, Instance}
 use Rattle.fsl_core.specs.logic.Consuming.{demand_equal}
-use Rattle.fsl_core.specs.logic.Locations.{Setting, Piece, parts_at, part_at, consume_parts, produce_part}
+use Rattle.fsl_core.specs.logic.Assertions.{Assertion}
+use Rattle.fsl_core.specs.logic.Locations.{Setting, parts_of, parts_at, part_at, consume_parts, produce_part}
 use Rattle.fsl_lin.specs.Combination.{Combination, constant}
 use Rattle.fsl_lin.specs.declared.fact.Fact.{Fact}
 
@@ -53,16 +55,16 @@ alloc_na slot = do
   set slot d
 
 -- leave to acquire each part, from a number on
-abbrev pub add_permissions : Leave → ℕ → List Piece → Action
+abbrev pub add_permissions : Leave → ℕ → List Assertion → Action
 add_permissions l part [] = done
-add_permissions l part (x ∷ xs) = do
+add_permissions l part (a ∷ rest) = do
   add (chunk.Acq l.at l.inv l.args part [])
-  add_permissions l (part + 1) xs
+  add_permissions l (part + 1) rest
 
 -- what may be done with a new location, for read-modify-writes or for loads
 abbrev pub add_leave : Setting → Bool → Leave → Action
 add_leave p true l = add (chunk.RmwAcq l.at l.inv l.args)
-add_leave p false l = add_permissions l 0 (parts_at p l l.at)
+add_leave p false l = add_permissions l 0 (parts_of (slice_get p.invs l.inv))
 
 abbrev pub alloc_at : Setting → ℕ → Bool → Instance → Action
 alloc_at p slot rmw inst = do

@@ -1,12 +1,11 @@
 -- Assertions: how each is produced, consumed, and passed on by a read-modify-write.
-use Rattle.std.specs.Prelude.{ℕ, Bool, true, false, ◌||◌, List, map}
+use Rattle.std.specs.Prelude.{ℕ, Bool, false, ◌||◌, List, map}
 use Rattle.std.specs.List.{list_any}
 use Rattle.fsl_core.specs.declared.assertion.Asrt.{Asrt}
 use Rattle.fsl_core.specs.declared.assertion.Asrt.TheOpen.{Asrt-F}
 use Rattle.fsl_core.specs.declared.assertion.Asrt.TheFolds.{fold-Asrt}
 use Rattle.fsl_core.specs.declared.expr.Expr.{Expr}
 use Rattle.fsl_core.specs.declared.mode.Rung.TheVariants.{Up, Down}
-use Rattle.fsl_core.specs.logic.States.{give}
 use Rattle.fsl_core.specs.logic.Terms.{Expression, expr_of}
 use Rattle.fsl_core.specs.logic.Deciding.{Condition, cond_of, cond_says}
 use Rattle.fsl_core.specs.logic.Producing.{Pattern, pat_of, pat_says, Instance, inst_of, Produce, emp_produced, fact_produced, points_produced, init_produced, rel_produced, acq_produced, rmw_produced, tok_produced, auth_produced, choice_produced, all_produced}

@@ -1,5 +1,5 @@
 -- Consuming an assertion at a rung: what it says has to be proved, and what it owns is taken out of the chunks.
-use Rattle.std.specs.Prelude.{ℕ, ◌==◌, Bool, true, false, ◌&&◌, List, [], ◌∷◌, Option, Some, None, pos, if◌then◌else◌, slice_set}
+use Rattle.std.specs.Prelude.{ℕ, ◌==◌, Bool, true, false, ◌&&◌, List, [], ◌∷◌, Option, Some, None, pos, slice_set}
 use Rattle.std.specs.List.{list_all, list_any}
 use Rattle.fsl_core.specs.declared.chunk.Chunk.{Chunk}
 use Rattle.fsl_core.specs.declared.chunk.Chunk.TheVariants as chunk
@@ -9,11 +9,12 @@ use Rattle.fsl_core.specs.declared.verdict.Kind.TheVariants as kind
 use Rattle.fsl_core.specs.declared.verdict.Mood.{Mood}
 use Rattle.fsl_core.specs.declared.verdict.Mood.TheVariants as mood
 use Rattle.fsl_core.specs.States.{Env}
-use Rattle.fsl_core.specs.logic.States.{Rule, Action, ◌>>=◌, ◌>>◌, give, done, fail, either, look, demand, demand_some}
+use Rattle.fsl_core.specs.logic.States.{Rule, Action, ◌>>=◌, ◌>>◌, give, fail, either, look, demand, demand_some}
 use Rattle.fsl_core.specs.logic.Terms.{Expression, term, terms, fitting}
 use Rattle.fsl_core.specs.logic.Deciding.{Condition, proves_at_most, proves_equal, assume_at_most, decided, demand_cond}
-use Rattle.fsl_core.specs.logic.Chunks.{Found, Reading, when, find, find_or, put, take, Cell, Leave, leave, Permission, same_leave, cell_at, enough_at, init_at, rel_of, rmw_of, tokens_of, authority_of}
-use Rattle.fsl_core.specs.logic.Producing.{nought, Wanted, any, bind, equals, Pattern, wanted, Instance, leave_terms, bank_of, chosen}
+use Rattle.fsl_core.specs.logic.Chunks.{Found, Reading, when, find, find_or, put, take, Cell, leave, Permission, same_leave, cell_at, enough_at, init_at, rel_of, rmw_of, tokens_of, authority_of}
+use Rattle.fsl_core.specs.logic.Joining.{nought}
+use Rattle.fsl_core.specs.logic.Producing.{Wanted, any, bind, equals, Pattern, wanted, Instance, leave_terms, bank_of, chosen}
 use Rattle.fsl_lin.specs.Combination.{Combination, minus, constant}
 use Rattle.fsl_lin.specs.declared.fact.Fact.{Fact}
 
@@ -35,10 +36,12 @@ rest_of share k = do
   where
     nothing : Rule (Option Combination)
     nothing = give None
+
     something : Rule (Option Combination)
     something = do
       r ← fitting (minus share k)
       give (Some r)
+
     by_rest : Bool → Bool → Rule (Option Combination)
     by_rest true stays = nothing
     by_rest false true = something
@@ -95,7 +98,7 @@ excludes_no_more facts out written = list_all (λ x. list_any (λ y. proves_equa
 abbrev pub permission_of : Permission → Reading Permission
 permission_of p facts (chunk.Acq a inv args part out) =
     when (same_leave facts (leave a inv args) p.leave && (part == p.part && excludes_no_more facts out p.out))
-      (record { leave = leave a inv args; part = part; out = out })
+    (record { leave = leave a inv args; part = part; out = out })
 permission_of p facts _ = None
 
 abbrev pub consume_tokens : Combination → Combination → Action

@@ -1,6 +1,6 @@
 -- The rules of fences: a release fence sets resources apart for relaxed writes, and an acquire fence gives those that
 -- relaxed reads have gained.
-use Rattle.std.specs.Prelude.{Bool, true, false, not, filter, List, [], ◌∷◌}
+use Rattle.std.specs.Prelude.{Bool, true, false, not, filter, map, List, [], ◌∷◌}
 use Rattle.fsl_core.specs.declared.chunk.Chunk.{Chunk}
 use Rattle.fsl_core.specs.declared.chunk.Chunk.TheVariants as chunk
 use Rattle.fsl_core.specs.declared.mode.Mode.{Mode}
@@ -9,7 +9,7 @@ use Rattle.fsl_core.specs.declared.mode.Rung.TheVariants.{Plain, Up, Down}
 use Rattle.fsl_core.specs.declared.verdict.Mood.TheVariants as mood
 use Rattle.fsl_core.specs.logic.States.{goes, Rule, Action, ◌>>=◌, ◌>>◌, done, here}
 use Rattle.fsl_core.specs.logic.Chunks.{same_rung}
-use Rattle.fsl_core.specs.logic.Producing.{produce_chunks}
+use Rattle.fsl_core.specs.logic.Joining.{at_rung, produce_chunks}
 use Rattle.fsl_core.specs.logic.Assertions.{Assertion}
 use Rattle.fsl_core.specs.logic.Accesses.{acquires, releases}
 
@@ -26,7 +26,7 @@ take_all rung = λ s. goes (filter (is_at rung) s.chunks) (record s { chunks = f
 abbrev pub acquire : Action
 acquire = do
   cs ← take_all Down
-  produce_chunks Plain cs
+  produce_chunks (map (at_rung Plain) cs)
 
 abbrev pub release : Assertion → Action
 release a = do

@@ -2,14 +2,13 @@
 use Rattle.std.specs.Prelude.{ℕ, ◌-◌, List, [], ◌∷◌, ◌++◌, map, length, Option, Some, None, slice_get, replicate}
 use Rattle.fsl_core.specs.declared.assertion.Asrt.{Asrt}
 use Rattle.fsl_core.specs.declared.mode.Rung.{Rung}
-use Rattle.fsl_core.specs.declared.program.Inv.{Inv}
 use Rattle.fsl_core.specs.declared.program.Proc.{Proc}
 use Rattle.fsl_core.specs.declared.program.Program.{Program}
 use Rattle.fsl_core.specs.declared.verdict.Mood.TheVariants as mood
 use Rattle.fsl_core.specs.States.{Env}
 use Rattle.fsl_core.specs.logic.States.{Rule, Action, ◌>>=◌, ◌>>◌, give, done}
 use Rattle.fsl_core.specs.logic.Chunks.{Leave}
-use Rattle.fsl_core.specs.logic.Producing.{nought}
+use Rattle.fsl_core.specs.logic.Joining.{nought}
 use Rattle.fsl_core.specs.logic.Messages.{Held}
 use Rattle.fsl_core.specs.logic.Assertions.{Assertion}
 use Rattle.fsl_lin.specs.Combination.{Combination}
@@ -42,6 +41,10 @@ setting_of read p = record {
 -- variables that aren't set yet stand behind those that are
 abbrev pub padded : ℕ → Env → Env
 padded slots env = env ++ replicate (slots - length env) nought
+
+abbrev pub parts_of : Option Invariant → List Assertion
+parts_of None = []
+parts_of (Some inv) = inv.parts
 
 -- a part of an invariant, with the environment that it is read in
 pub record Piece : Type 0 where

@@ -1,13 +1,11 @@
 -- The paths of a procedure: its statements one after the other, each with its branches in order. A path is known by
 -- its end, and the ends stand in the order of the paths, depth first.
-use Rattle.std.specs.Prelude.{ℕ, ◌+◌, Bool, true, false, List, [], ◌∷◌, ◌++◌, map, Option, Some, None, flat_map}
+use Rattle.std.specs.Prelude.{ℕ, Bool, true, false, List, [], ◌∷◌, ◌++◌, map, Option, Some, None, flat_map}
 use Rattle.fsl_base.specs.declared.span.Span.{Span}
-use Rattle.fsl_core.specs.declared.act.Act.{Act}
 use Rattle.fsl_core.specs.declared.act.Act.TheOpen.{Act-F, Stmt-F}
-use Rattle.fsl_core.specs.declared.act.Act.TheFolds.{fold-Act, fold-Stmt}
+use Rattle.fsl_core.specs.declared.act.Act.TheFolds.{fold-Stmt}
 use Rattle.fsl_core.specs.declared.act.Stmt.{Stmt}
 use Rattle.fsl_core.specs.declared.assertion.Asrt.{Asrt}
-use Rattle.fsl_core.specs.declared.expr.Cond.{Cond}
 use Rattle.fsl_core.specs.declared.expr.Expr.{Expr}
 use Rattle.fsl_core.specs.declared.mode.Rung.TheVariants.{Plain}
 use Rattle.fsl_core.specs.declared.program.Proc.{Proc}
@@ -15,10 +13,11 @@ use Rattle.fsl_core.specs.declared.program.Program.{Program}
 use Rattle.fsl_core.specs.declared.verdict.Kind.TheVariants as kind
 use Rattle.fsl_core.specs.declared.verdict.Mood.TheVariants as mood
 use Rattle.fsl_core.specs.Paths.{End, derived, failed}
-use Rattle.fsl_core.specs.logic.States.{State, goes, fails, Branches, Rule, Action, ◌>>=◌, ◌>>◌, done, here, set}
+use Rattle.fsl_core.specs.logic.States.{State, goes, fails, Branches, Action, ◌>>=◌, ◌>>◌, done, change, here, set}
 use Rattle.fsl_core.specs.logic.Terms.{Expression, expr_of, term}
 use Rattle.fsl_core.specs.logic.Deciding.{Condition, cond_of, decided, assume_cond, demand_cond}
-use Rattle.fsl_core.specs.logic.Producing.{nought, chosen, inst_of}
+use Rattle.fsl_core.specs.logic.Joining.{nought}
+use Rattle.fsl_core.specs.logic.Producing.{chosen, inst_of}
 use Rattle.fsl_core.specs.logic.Assertions.{Assertion, asrt_of}
 use Rattle.fsl_core.specs.logic.Locations.{Setting, setting_of, Contract, contract_of}
 use Rattle.fsl_core.specs.logic.Accesses.{alloc_na, alloc_at, load, store, free}
@@ -26,7 +25,7 @@ use Rattle.fsl_core.specs.logic.Tokens.{new_bank, step_of, token_step}
 use Rattle.fsl_core.specs.logic.Fences.{fence}
 use Rattle.fsl_core.specs.logic.Updates.{cas, fetch_add, exchange}
 use Rattle.fsl_core.specs.logic.Calls.{enter, finish, call, call_of, par}
-use Rattle.fsl_core.specs.logic.Slots.{past, renew, drop_chunks}
+use Rattle.fsl_core.specs.logic.Slots.{past, renew}
 
 -- the ends of the paths that go on from a state
 abbrev pub Ends : Type 0
@@ -106,6 +105,10 @@ give_inv inv = do
   env ← here
   inv.consume mood.Loop Plain env
   done
+
+-- nothing is owned
+abbrev pub drop_chunks : Action
+drop_chunks = change (λ s. record s { chunks = [] })
 
 -- the body has nothing but the invariant, and gives it back
 abbrev pub body_ends : Condition → Assertion → List Meaning → Span → ℕ → Ends

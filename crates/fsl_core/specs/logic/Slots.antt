@@ -2,8 +2,7 @@
 -- the order of their declarations, and a variable is set where it is declared.
 use Rattle.std.specs.Prelude.{ℕ, zero, suc, ◌+◌, max, ◌==◌, Bool, true, false, List, [], ◌∷◌}
 use Rattle.std.specs.List.{list_any}
-use Rattle.fsl_core.specs.logic.States.{Rule, Action, ◌>>=◌, ◌>>◌, done, change, new_symbol, set}
-use Rattle.fsl_lin.specs.Combination.{Combination}
+use Rattle.fsl_core.specs.logic.States.{Action, ◌>>=◌, ◌>>◌, done, new_symbol, set}
 
 -- the number of slots that are declared, once these are set too
 abbrev pub past : ℕ → List ℕ → ℕ
@@ -22,7 +21,3 @@ renew zero slots = done
 renew (suc n) slots = do
   renew n slots
   renew_one (list_any (λ slot. slot == n) slots) n
-
--- nothing is owned
-abbrev pub drop_chunks : Action
-drop_chunks = change (λ s. record s { chunks = [] })

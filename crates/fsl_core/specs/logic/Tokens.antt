@@ -1,14 +1,14 @@
 -- The rules of banks of counting tokens.
-use Rattle.std.specs.Prelude.{ℕ, ◌+◌, Bool, true, false, List, [], ◌∷◌}
+use Rattle.std.specs.Prelude.{ℕ, Bool, true, false, List, [], ◌∷◌}
 use Rattle.fsl_core.specs.declared.act.Step.{Step}
 use Rattle.fsl_core.specs.declared.expr.Expr.{Expr}
-use Rattle.fsl_core.specs.declared.chunk.Chunk.{Chunk}
 use Rattle.fsl_core.specs.declared.chunk.Chunk.TheVariants as chunk
 use Rattle.fsl_core.specs.declared.verdict.Kind.TheVariants as kind
-use Rattle.fsl_core.specs.logic.States.{Rule, Action, ◌>>=◌, ◌>>◌, done, new_symbol, here, set}
+use Rattle.fsl_core.specs.logic.States.{Action, ◌>>=◌, ◌>>◌, done, new_symbol, here, set}
 use Rattle.fsl_core.specs.logic.Terms.{Expression, term, fitting}
-use Rattle.fsl_core.specs.logic.Chunks.{find_or, put, add, Count, authority_of}
-use Rattle.fsl_core.specs.logic.Producing.{nought, bank_of, produce_tokens}
+use Rattle.fsl_core.specs.logic.Chunks.{find_or, put, add, authority_of}
+use Rattle.fsl_core.specs.logic.Joining.{nought, produce_tokens}
+use Rattle.fsl_core.specs.logic.Producing.{bank_of}
 use Rattle.fsl_core.specs.logic.Consuming.{demand_at_most, consume_tokens}
 use Rattle.fsl_lin.specs.Combination.{Combination, plus, minus}
 

@@ -1,6 +1,6 @@
 -- The rule of read-modify-writes. What the message holds is divided into what is passed on with the new value and
 -- what the thread keeps.
-use Rattle.std.specs.Prelude.{ℕ, ◌^◌, ◌-◌, Bool, true, false, ◌&&◌, List, [], ◌∷◌, map, Option, Some, None, is_some, pos, negsuc, if◌then◌else◌}
+use Rattle.std.specs.Prelude.{ℕ, ◌^◌, ◌-◌, Bool, true, false, ◌&&◌, List, [], ◌∷◌, map, is_some, pos, negsuc, if◌then◌else◌}
 use Rattle.fsl_core.specs.declared.chunk.Chunk.{Chunk}
 use Rattle.fsl_core.specs.declared.chunk.Chunk.TheVariants as chunk
 use Rattle.fsl_core.specs.declared.mode.Mode.{Mode}
@@ -10,8 +10,9 @@ use Rattle.fsl_core.specs.declared.verdict.Kind.TheVariants as kind
 use Rattle.fsl_core.specs.logic.States.{State, Rule, Action, ◌>>=◌, ◌>>◌, give, done, look, new_symbol, here, set}
 use Rattle.fsl_core.specs.logic.Terms.{Expression, term, fitting}
 use Rattle.fsl_core.specs.logic.Deciding.{assume_at_most, decide_equal, each_side}
-use Rattle.fsl_core.specs.logic.Chunks.{Found, first, find_or, Leave, cell_at, init_at, rel_at, rmw_at}
-use Rattle.fsl_core.specs.logic.Producing.{produce_chunk, chosen}
+use Rattle.fsl_core.specs.logic.Chunks.{first, find_or, Leave, cell_at, init_at, rel_at, rmw_at}
+use Rattle.fsl_core.specs.logic.Joining.{at_rung, produce_chunk}
+use Rattle.fsl_core.specs.logic.Producing.{chosen}
 use Rattle.fsl_core.specs.logic.Locations.{Setting, parts_at, produce_parts, pass_parts}
 use Rattle.fsl_core.specs.logic.Accesses.{acquires, giving}
 use Rattle.fsl_core.specs.logic.Tokens.{TokenStep, token_steps}
@@ -46,7 +47,7 @@ abbrev pub keep : Bool → List Held → Action
 keep acquiring [] = done
 keep acquiring (h ∷ hs) = do
   rung ← look (keeping acquiring h)
-  produce_chunk rung h.chunk
+  produce_chunk (at_rung rung h.chunk)
   keep acquiring hs
 
 -- the value o is read and replaced by `new`

@@ -1,5 +1,5 @@
 -- Words that write programs out: expressions, conditions, assertions, statements, invariants and procedures.
-use Rattle.std.specs.Prelude.{ℕ, ◌-◌, ◌^◌, Bool, true, false, List, [], ◌∷◌, Option, pos, negsuc}
+use Rattle.std.specs.Prelude.{ℕ, ◌-◌, ◌^◌, true, false, List, pos, negsuc}
 use Rattle.fsl_base.specs.declared.span.Span.{Span}
 use Rattle.fsl_core.specs.declared.act.Act.{Act}
 use Rattle.fsl_core.specs.declared.act.Act.TheOpen.{Act-F}
@@ -19,7 +19,6 @@ use Rattle.fsl_core.specs.declared.expr.Expr.{Expr}
 use Rattle.fsl_core.specs.declared.expr.Expr.TheOpen.{Expr-F}
 use Rattle.fsl_core.specs.declared.expr.Expr.TheViews.{roll-Expr}
 use Rattle.fsl_core.specs.declared.expr.Part.{Part}
-use Rattle.fsl_core.specs.declared.mode.Mode.{Mode}
 use Rattle.fsl_core.specs.declared.program.Inv.{Inv}
 use Rattle.fsl_core.specs.declared.program.Proc.{Proc}
 use Rattle.fsl_core.specs.declared.program.Program.{Program}
@@ -47,6 +46,9 @@ plus e = record { minus = false; e = e }
 
 abbrev pub minus : Expr → Part
 minus e = record { minus = true; e = e }
+
+abbrev pub negated : Expr → Expr
+negated e = roll-Expr (Expr-F.Neg e)
 
 abbrev pub sum : List Part → Expr
 sum parts = roll-Expr (Expr-F.Sum parts)
