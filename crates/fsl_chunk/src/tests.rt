@@ -47,53 +47,52 @@ fn owned(alloc: Global) -> Result<Heap, HeapFault> {
     Ok(heap)
 }
 
+// The last number in a list of the heap, and of a copy that was made before the oldest chunk was taken out.
+fn last_listed(alloc: Global, kind: ChunkKind) -> Result<(Option<u32>, Option<u32>), HeapFault> {
+    let mut heap = owned(alloc)?;
+    let before = heap.fork(alloc)?;
+    if heap.len() > 0 {
+        let _oldest = heap.remove(0);
+    }
+    let now = heap.listed(kind, Rung::Plain).last().copied();
+    let was = before.listed(kind, Rung::Plain).last().copied();
+    Ok((now, was))
+}
+
 #[test]
 fn lists_the_chunks_of_a_kind(rt: HostRuntime) -> Result<(), HeapFault> {
     let alloc = rt.alloc();
-    let mut heap = owned(alloc)?;
-    let before = heap.fork(alloc)?;
-    assert_eq!(rt;
-        heap.listed(ChunkKind::Points, Rung::Plain),
-        [0, 1, 3].as_slice()
-    );
-    assert_eq!(rt; heap.listed(ChunkKind::Init, Rung::Plain), [2].as_slice());
-    assert!(rt; heap.listed(ChunkKind::Points, Rung::Up).is_empty());
-    if heap.len() == 4 {
-        let _first = heap.remove(0);
-    }
-    assert_eq!(rt;
-        heap.listed(ChunkKind::Points, Rung::Plain),
-        [0, 2].as_slice()
-    );
-    assert_eq!(rt; before.len(), 4);
+    assert_eq!(rt; last_listed(alloc, ChunkKind::Points)?, (Some(2), Some(3)));
+    assert_eq!(rt; last_listed(alloc, ChunkKind::Init)?, (Some(1), Some(2)));
+    assert_eq!(rt; last_listed(alloc, ChunkKind::Tok)?, (None, None));
     Ok(())
 }
 
-// A state without variables that owns these cells.
-fn state_with(alloc: Global, cells: &[(i128, i128)]) -> Result<State, AllocError> {
-    let mut state = State::new(alloc, Env::new(alloc))?;
-    for (at, share) in cells {
-        let cell = cell(alloc, *at, *share)?;
-        match state.add(alloc, cell)? {
-            Went::Goes { state: next } => state = next,
-            _ => return Err(AllocError),
-        }
+fn with_cell(alloc: Global, state: State, at: i128, share: i128) -> Result<State, AllocError> {
+    let cell = cell(alloc, at, share)?;
+    match state.add(alloc, cell)? {
+        Went::Goes { state } => Ok(state),
+        _ => Err(AllocError),
     }
-    Ok(state)
 }
 
-fn found_at(alloc: Global, state: &State, at: i128) -> Result<Option<u32>, AllocError> {
+// A state that owns cells at 1, 2 and 1.
+fn state_with_cells(alloc: Global) -> Result<State, AllocError> {
+    let state = State::new(alloc, Env::new(alloc))?;
+    let state = with_cell(alloc, state, 1, 5)?;
+    let state = with_cell(alloc, state, 2, 5)?;
+    with_cell(alloc, state, 1, 9)
+}
+
+fn found_at(alloc: Global, at: i128) -> Result<Option<u32>, AllocError> {
+    let state = state_with_cells(alloc)?;
     let at = number(alloc, at)?;
     let rung = Rung::Plain;
     Ok(state.find(&Want::Points { rung, at: &at }))
 }
 
-fn found_with(
-    alloc: Global,
-    state: &State,
-    at: i128,
-    share: i128,
-) -> Result<Option<u32>, AllocError> {
+fn found_with(alloc: Global, at: i128, share: i128) -> Result<Option<u32>, AllocError> {
+    let state = state_with_cells(alloc)?;
     let at = number(alloc, at)?;
     let share = number(alloc, share)?;
     Ok(state.find(&Want::Enough {
@@ -106,10 +105,9 @@ fn found_with(
 #[test]
 fn finds_the_first_chunk_that_fits(rt: HostRuntime) -> Result<(), AllocError> {
     let alloc = rt.alloc();
-    let state = state_with(alloc, &[(1, 5), (2, 5), (1, 9)])?;
-    assert_eq!(rt; found_at(alloc, &state, 1)?, Some(0));
-    assert_eq!(rt; found_at(alloc, &state, 3)?, None);
-    assert_eq!(rt; found_with(alloc, &state, 1, 7)?, Some(2));
+    assert_eq!(rt; found_at(alloc, 1)?, Some(0));
+    assert_eq!(rt; found_at(alloc, 3)?, None);
+    assert_eq!(rt; found_with(alloc, 1, 7)?, Some(2));
     Ok(())
 }
 
@@ -154,14 +152,25 @@ fn assumes_until_the_facts_are_absurd(rt: HostRuntime) -> Result<(), AllocError>
     Ok(())
 }
 
-#[test]
-fn sets_a_variable_of_one_copy(rt: HostRuntime) -> Result<(), AllocError> {
-    let alloc = rt.alloc();
+fn rest_of(term: Option<&Lin>) -> Option<i128> {
+    match term {
+        Some(term) => Some(term.rest()),
+        None => None,
+    }
+}
+
+// A variable that was set to 4, and the same one of a copy that was made before.
+fn set_to_four(alloc: Global) -> Result<(Option<i128>, Option<i128>), AllocError> {
     let mut env = Env::new(alloc);
     env.push(alloc, number(alloc, 0)?)?;
     let before = env.fork(alloc)?;
     env.set(alloc, 0, number(alloc, 4)?)?;
-    assert_eq!(rt; env.get(0).map(|term| term.rest()), Some(4));
-    assert_eq!(rt; before.last().map(|term| term.rest()), Some(0));
+    Ok((rest_of(env.get(0)), rest_of(before.last())))
+}
+
+#[test]
+fn sets_a_variable_of_one_copy(rt: HostRuntime) -> Result<(), AllocError> {
+    let alloc = rt.alloc();
+    assert_eq!(rt; set_to_four(alloc)?, (Some(4), Some(0)));
     Ok(())
 }
