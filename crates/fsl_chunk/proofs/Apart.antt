@@ -1,12 +1,11 @@
 -- The combination a - b + gap, by its numbers.
-use Rattle.std.proofs.Common.{◌≡◌, ℕ, zero, suc, ◌+◌, ◌-◌, ◌<◌, ◌≤◌, ◌^◌, Bool, true, false, ◌&&◌, inl, inr, List, [], ◌∷◌, ◌++◌, length, replicate, get_or, ℤ, pos, ◌+ℤ◌, ◌-ℤ◌, refl, sym, ap, ◌∙◌, arith, length-append}
+use Rattle.std.proofs.Common.{◌≡◌, ℕ, zero, suc, ◌+◌, ◌-◌, ◌<◌, ◌≤◌, ◌^◌, Bool, true, false, ◌&&◌, List, [], ◌∷◌, ◌++◌, length, replicate, get_or, ℤ, pos, ◌+ℤ◌, ◌-ℤ◌, refl, sym, ap, ◌∙◌, arith, length-append}
 use Rattle.std.proofs.lemmas.Int.{ints}
 use Rattle.std.proofs.lemmas.List.{get_or_past, length-replicate}
-use Rattle.std.proofs.lemmas.Bool.{and_parts, and_from}
 use Rattle.fsl_lin.specs.Combination.{Combination, IsKept, coefficient, plus, minus, constant, is_narrow, is_within, are_within, trim, joined}
 use Rattle.fsl_lin.specs.Numbers.{Numbers, most, part, gapped, fits, within_above}
 use Rattle.fsl_lin.proofs.Arrays.{most_is, above_is}
-use Rattle.fsl_lin.proofs.Coefficients.{trim_at, joined_at, minus_at, trim_by_items}
+use Rattle.fsl_lin.proofs.Coefficients.{joined_at, minus_at, trim_by_items}
 use Rattle.fsl_lin.proofs.Kept.{few_joined}
 use Rattle.fsl_lin.proofs.Terms.{trim_within, trim_shorter}
 

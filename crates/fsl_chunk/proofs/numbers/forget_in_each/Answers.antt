@@ -1,4 +1,4 @@
-use Rattle.std.proofs.Common.{◌≡◌, ◌<◌, length, ap, ◌∙◌, arith}
+use Rattle.std.proofs.Common.{◌<◌, length, ap, ◌∙◌, arith}
 use Rattle.fsl_chunk.specs.Lists.{without}
 use Rattle.fsl_chunk.proofs.InLists.{one_changed}
 use Rattle.fsl_chunk.proofs.numbers.forget_in_each.Goals as goal

@@ -1,4 +1,4 @@
-use Rattle.std.proofs.Common.{◌≡◌, ◌<◌, ◌++◌, ◌∷◌, [], length, get_or, set, ap, ◌∙◌, arith}
+use Rattle.std.proofs.Common.{◌≡◌, ◌<◌, ◌++◌, ◌∷◌, [], length, get_or, set, ◌∙◌, arith}
 use Rattle.fsl_chunk.specs.Listed.{kind_of, rung_of}
 use Rattle.fsl_chunk.specs.Lists.{list_number}
 use Rattle.fsl_chunk.proofs.Listing.{added_listed}

@@ -1,4 +1,4 @@
-use Rattle.std.proofs.Common.{◌≡◌, ◌<◌, length, ap, ◌∙◌}
+use Rattle.std.proofs.Common.{◌<◌, length, ap, ◌∙◌}
 use Rattle.fsl_chunk.specs.Listed.{listed}
 use Rattle.fsl_chunk.specs.Sought.{fits}
 use Rattle.fsl_chunk.proofs.Searching.{first_in, search_listed, listed_below}

@@ -1,4 +1,4 @@
-use Rattle.std.proofs.Common.{to_z, of_z, SFits}
+use Rattle.std.proofs.Common.{SFits}
 use Rattle.std.specs.Int.{w128}
 use Rattle.std.proofs.lemmas.Int.{to_z-of_z}
 use Rattle.fsl_chunk.proofs.state.State.proves_at_most.Goals as goal

@@ -1,4 +1,4 @@
-use Rattle.std.proofs.Common.{◌≡◌, ap, ◌∙◌}
+use Rattle.std.proofs.Common.{ap, ◌∙◌}
 use Rattle.fsl_core.specs.logic.States.{State}
 use Rattle.fsl_core.specs.logic.Deciding.{proves_equal}
 use Rattle.fsl_chunk.proofs.state.State.proves_equal.Goals as goal
