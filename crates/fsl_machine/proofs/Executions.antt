@@ -1,18 +1,16 @@
 -- The graph of the moves so far is an execution.
-use Rattle.std.proofs.Common.{◌≡◌, ◌<◌, ◌+◌, ℕ, zero, suc, Bool, true, false, List, [], ◌∷◌, length, slice_get, Some, ℤ, pos, ◌<ℤ◌, refl, ap, sym, subst, ◌∙◌, arith}
+use Rattle.std.proofs.Common.{◌≡◌, ℕ, zero, suc, true, List, [], ◌∷◌, Some, pos, ◌<ℤ◌, refl, ap, sym, subst, ◌∙◌, arith}
 use Rattle.std.proofs.lemmas.Bool.{and_parts}
 use Rattle.std.proofs.lemmas.Int.{ints}
 use Rattle.std.specs.Prelude.{codes}
 use Rattle.std.specs.Str.{bytes_eq}
-use Rattle.fsl_core.specs.declared.label.Label.{Label}
 use Rattle.fsl_core.specs.declared.label.Label.TheVariants as label
 use Rattle.fsl_core.specs.declared.program.Proc.{Proc}
 use Rattle.fsl_core.specs.declared.program.Program.{Program}
 use Rattle.fsl_core.specs.Moves.{Config, start_of}
 use Rattle.fsl_core.specs.Straight.{is_straight_proc, is_one_straight, is_straight, is_empty}
-use Rattle.fsl_graph.specs.declared.event.Event.{Event}
 use Rattle.fsl_graph.specs.declared.graph.Thread.{Thread}
-use Rattle.fsl_graph.specs.Execution.{Runs, IsExecution, IsThread, events_of, main_of, named_from, Starts, Allocates}
+use Rattle.fsl_graph.specs.Execution.{Runs, IsExecution, IsThread, events_of, main_of, named_from, Starts}
 use Rattle.fsl_graph.specs.Lone.{is_plain}
 use Rattle.fsl_machine.specs.Serial.{IsSerial, IsPlaced}
 use Rattle.fsl_machine.specs.States.{lone_graph}

@@ -1,5 +1,5 @@
 -- The counts and locations of a history with one more event.
-use Rattle.std.proofs.Common.{◌≡◌, ◌<◌, ◌≤◌, ◌+◌, ◌++◌, ℕ, zero, suc, Bool, true, false, cond, List, [], ◌∷◌, length, slice_get, Option, Some, ℤ, pos, ◌⊎◌, inl, inr, refl, ap, sym, subst, add-zero, ◌∙◌, arith}
+use Rattle.std.proofs.Common.{◌≡◌, ◌+◌, ◌++◌, ℕ, suc, Bool, true, false, cond, List, [], ◌∷◌, length, Option, ℤ, pos, ◌⊎◌, inl, inr, refl, ap, sym, subst, add-zero, ◌∙◌, arith}
 use mir.Val.{bool_byte}
 use Rattle.std.proofs.lemmas.List.Sums.{sum_by_push}
 use Rattle.fsl_core.specs.declared.label.Label.{Label}
@@ -8,7 +8,7 @@ use Rattle.fsl_core.specs.declared.mode.AllocKind.{AllocKind}
 use Rattle.fsl_graph.specs.declared.event.Event.{Event}
 use Rattle.fsl_graph.specs.declared.graph.Order.{Order}
 use Rattle.fsl_graph.specs.Lone.{is_plain}
-use Rattle.fsl_machine.specs.Trace.{Trace, is_alloc, is_write, allocations, messages, source_in, source_of, ordered, event_of, recorded, next_location, IsNext}
+use Rattle.fsl_machine.specs.Trace.{Trace, is_alloc, is_write, allocations, source_in, source_of, ordered, event_of, recorded, IsNext}
 use Rattle.fsl_machine.specs.Serial.{Places, IsPlaced, IsKept}
 use Rattle.fsl_machine.proofs.Serial.{serial_more}
 use Rattle.fsl_machine.proofs.Snoc.{get_cases}

@@ -1,5 +1,5 @@
 -- The graph of a history of one thread.
-use Rattle.std.proofs.Common.{◌≡◌, ◌<◌, ◌≤◌, ◌+◌, ◌-◌, ℕ, zero, suc, Bool, true, false, cond, List, [], ◌∷◌, length, slice_get, Option, Some, None, ℤ, pos, ◌<ℤ◌, int_lt, ◌⊎◌, inl, inr, refl, ap, sym, subst, ◌∙◌, arith}
+use Rattle.std.proofs.Common.{◌≡◌, ◌<◌, ℕ, zero, suc, Bool, true, false, cond, List, [], ◌∷◌, slice_get, Option, Some, None, ℤ, ◌<ℤ◌, inl, inr, refl, ap, sym, subst, ◌∙◌, arith}
 use Rattle.std.proofs.lemmas.Bool.{cases_lt}
 use Rattle.std.proofs.lemmas.Bool.Decides.{Decides-int_eq}
 use Rattle.std.specs.Ordering.{int_eq}
@@ -8,19 +8,17 @@ use Rattle.fsl_core.specs.declared.label.Label.TheVariants as label
 use Rattle.fsl_core.specs.declared.mode.Mode.{Mode}
 use Rattle.fsl_core.specs.declared.mode.Mode.TheVariants as mode
 use Rattle.fsl_graph.specs.declared.event.Event.{Event}
-use Rattle.fsl_graph.specs.declared.graph.Graph.{Graph}
 use Rattle.fsl_graph.specs.declared.graph.Order.{Order}
 use Rattle.fsl_graph.specs.declared.graph.Thread.{Thread}
 use Rattle.fsl_graph.specs.Consistent.{HasOrders}
-use Rattle.fsl_graph.specs.Events.{Touch, Touches, written_by, Writes}
+use Rattle.fsl_graph.specs.Events.{Touches, written_by, Writes}
 use Rattle.fsl_graph.specs.Lone.{is_plain, IsLast, IsLone}
-use Rattle.fsl_graph.specs.Places.{IsEntry, Listed}
+use Rattle.fsl_graph.specs.Places.{Listed}
 use Rattle.fsl_machine.specs.Orders.{writes_of, AreAbove, Ascends}
 use Rattle.fsl_machine.specs.Serial.{Stores, IsLastOf, AreBegun, IsSerial}
 use Rattle.fsl_machine.specs.States.{with_trace}
 use Rattle.fsl_machine.specs.Trace.{Trace}
 use Rattle.fsl_machine.proofs.Places.{below_other}
-use Rattle.fsl_machine.proofs.Snoc.{get_within}
 
 -- ---- stores are writes
 

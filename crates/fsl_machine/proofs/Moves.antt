@@ -1,5 +1,5 @@
 -- What a move of a straight program asks and shows.
-use Rattle.std.proofs.Common.{◌≡◌, ℕ, zero, suc, Bool, true, false, List, [], ◌∷◌, length, drop, slice_get, Option, Some, None, ℤ, pos, refl, ap, sym, ◌∙◌}
+use Rattle.std.proofs.Common.{◌≡◌, ℕ, zero, suc, Bool, true, List, [], ◌∷◌, drop, slice_get, Option, Some, None, ℤ, refl, ap, sym, ◌∙◌}
 use Rattle.std.specs.List.{list_all}
 use Rattle.std.proofs.lemmas.Bool.{and_parts}
 use Rattle.fsl_core.specs.declared.act.Act.{Act}
@@ -7,14 +7,7 @@ use Rattle.fsl_core.specs.declared.act.Act.TheOpen.{Act-F}
 use Rattle.fsl_core.specs.declared.act.Act.TheViews.{out-Act}
 use Rattle.fsl_core.specs.declared.act.Act.TheFolds.{fold-Stmt, fold_out-Act, map-Act}
 use Rattle.fsl_core.specs.declared.act.Stmt.{Stmt}
-use Rattle.fsl_core.specs.declared.label.Label.{Label}
-use Rattle.fsl_core.specs.declared.label.Label.TheVariants as label
-use Rattle.fsl_core.specs.declared.mode.AllocKind.TheVariants as kind
 use Rattle.fsl_core.specs.declared.mode.Mode.TheVariants as mode
-use Rattle.fsl_core.specs.declared.need.Need.{Need}
-use Rattle.fsl_core.specs.declared.need.Need.TheVariants as need
-use Rattle.fsl_core.specs.declared.need.Reply.{Reply}
-use Rattle.fsl_core.specs.declared.need.Reply.TheVariants as reply
 use Rattle.fsl_core.specs.declared.program.Proc.{Proc}
 use Rattle.fsl_core.specs.declared.program.Program.{Program}
 use Rattle.fsl_core.specs.Moves.{Move, Frame, Config, given, branching, act_move, frame_move, move_of}

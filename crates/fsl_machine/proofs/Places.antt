@@ -1,11 +1,11 @@
 -- Where the order of a location stands.
-use Rattle.std.proofs.Common.{◌≡◌, ◌<◌, ◌≤◌, ◌+◌, ◌++◌, ℕ, zero, suc, Bool, true, false, cond, List, [], ◌∷◌, length, slice_get, get_or, take, drop, set, ℤ, ◌<ℤ◌, ◌≤ℤ◌, ◌⊎◌, inl, inr, int_lt, refl, ap, sym, subst, ◌∙◌, arith}
+use Rattle.std.proofs.Common.{◌≡◌, ◌<◌, ◌≤◌, ◌++◌, ℕ, zero, suc, Bool, true, false, cond, List, [], ◌∷◌, length, slice_get, get_or, take, drop, set, ℤ, ◌<ℤ◌, ◌≤ℤ◌, int_lt, refl, ap, sym, subst, ◌∙◌, arith}
 use Rattle.std.proofs.lemmas.Int.{ints, by_lt_z}
 use Rattle.std.specs.Int.Signed.{<ℤ-≤ℤ_trans}
 use Rattle.std.proofs.lemmas.Bool.Decides.{Decides-int_eq}
 use Rattle.std.specs.Ordering.{int_eq}
 use Rattle.fsl_graph.specs.declared.graph.Order.{Order}
-use Rattle.fsl_machine.specs.Orders.{writes_of, place_of, is_at, begun, longer, put, put_here, AreAbove, Ascends}
+use Rattle.fsl_machine.specs.Orders.{writes_of, place_of, is_at, begun, longer, put, AreAbove, Ascends}
 
 lt_trans : (a b c : ℤ) → a <ℤ b → int_lt b c ≡ true → int_lt a c ≡ true
 lt_trans a b c h k = grind (arith, ints)

@@ -1,11 +1,11 @@
 -- Orders with one more write.
-use Rattle.std.proofs.Common.{◌≡◌, ◌<◌, ◌++◌, ℕ, zero, suc, Bool, true, false, List, [], ◌∷◌, length, slice_get, Some, ℤ, ◌<ℤ◌, int_lt, refl, ap, ◌∙◌, sym, cond}
+use Rattle.std.proofs.Common.{◌≡◌, ◌++◌, ℕ, Bool, true, false, List, [], ◌∷◌, slice_get, Some, ℤ, ◌<ℤ◌, int_lt, refl, ap, cond}
 use Rattle.std.proofs.lemmas.Bool.Decides.{Decides-int_eq}
 use Rattle.std.specs.Ordering.{int_eq}
 use Rattle.fsl_graph.specs.declared.graph.Order.{Order}
-use Rattle.fsl_machine.specs.Orders.{writes_of, begun, longer, put, put_here, AreAbove, Ascends}
+use Rattle.fsl_machine.specs.Orders.{writes_of, put, put_here, AreAbove, Ascends}
 use Rattle.fsl_machine.specs.Serial.{AreBegun}
-use Rattle.fsl_machine.proofs.Places.{not_equal, between, below, none_above, above_below, not_true}
+use Rattle.fsl_machine.proofs.Places.{not_equal, between, below, none_above, above_below}
 
 above_here : (b : Bool) (m l : ℤ) (e : ℕ) (o : Order) (os : List Order) → m <ℤ l → AreAbove m (o ∷ os) → AreAbove m (put_here b l e o os)
 above_here true m l e o os h k = k

@@ -1,5 +1,5 @@
 -- The moves so far, with one more.
-use Rattle.std.proofs.Common.{◌≡◌, ◌<◌, ◌≤◌, ◌+◌, ◌++◌, ℕ, zero, suc, Bool, true, false, cond, ◌==◌, List, [], ◌∷◌, length, slice_get, Option, Some, None, ℤ, pos, refl, ap, sym, subst, ◌∙◌, arith, add-one}
+use Rattle.std.proofs.Common.{◌≡◌, ◌+◌, ◌++◌, ℕ, zero, suc, Bool, true, false, cond, ◌==◌, List, [], ◌∷◌, length, slice_get, Option, Some, None, refl, ap, sym, subst, ◌∙◌, arith}
 use Rattle.fsl_core.specs.declared.label.Label.{Label}
 use Rattle.fsl_core.specs.declared.label.Label.TheVariants as label
 use Rattle.fsl_core.specs.declared.mode.AllocKind.TheVariants as kind
@@ -10,12 +10,12 @@ use Rattle.fsl_core.specs.declared.need.Reply.{Reply}
 use Rattle.fsl_core.specs.declared.need.Reply.TheVariants as reply
 use Rattle.fsl_core.specs.declared.need.Started.{Started}
 use Rattle.fsl_core.specs.declared.program.Program.{Program}
-use Rattle.fsl_core.specs.Moves.{Config, Moved, need_of, moved, move_of, showing, start_of}
+use Rattle.fsl_core.specs.Moves.{Config, Moved, need_of, moved, showing}
 use Rattle.fsl_graph.specs.declared.event.Event.{Event}
 use Rattle.fsl_graph.specs.declared.graph.Graph.{Graph}
 use Rattle.fsl_graph.specs.declared.graph.Thread.{Thread}
 use Rattle.fsl_graph.specs.Events.{Is}
-use Rattle.fsl_graph.specs.Execution.{Runs, stands, silent, shows, StartsChildren, AreStarted, IsStarted, IsThread, reply_of, numbered_of, events_of, first_of}
+use Rattle.fsl_graph.specs.Execution.{Runs, stands, silent, shows, StartsChildren, AreStarted, IsStarted, reply_of, numbered_of, events_of, first_of}
 use Rattle.fsl_graph.specs.Lone.{is_plain}
 use Rattle.fsl_machine.specs.Labels.{label_by, is_plain_need}
 use Rattle.fsl_machine.specs.States.{grown, lone_graph}

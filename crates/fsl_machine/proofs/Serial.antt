@@ -1,5 +1,5 @@
 -- The history of one thread with one more event.
-use Rattle.std.proofs.Common.{◌≡◌, ◌<◌, ◌≤◌, ◌+◌, ◌-◌, ◌++◌, ℕ, suc, Bool, true, false, List, [], ◌∷◌, length, slice_get, Option, Some, None, ℤ, pos, ◌⊎◌, inl, inr, ⊎_elim, refl, ap, sym, subst, ◌∙◌, arith}
+use Rattle.std.proofs.Common.{◌≡◌, ◌<◌, ◌≤◌, ◌-◌, ◌++◌, ℕ, Bool, true, false, List, [], ◌∷◌, length, slice_get, Option, Some, None, ℤ, ◌⊎◌, inl, inr, refl, ap, sym, subst, ◌∙◌, arith}
 use Rattle.std.proofs.lemmas.Bool.Decides.{Decides-int_eq}
 use Rattle.std.proofs.lemmas.Bool.{cases_lt}
 use Rattle.std.specs.Ordering.{int_eq}
@@ -11,8 +11,8 @@ use Rattle.fsl_graph.specs.declared.graph.Order.{Order}
 use Rattle.fsl_graph.specs.Events.{read_by}
 use Rattle.fsl_graph.specs.Lone.{is_plain}
 use Rattle.fsl_machine.specs.Orders.{writes_of, last_of, last_write, put, Ascends}
-use Rattle.fsl_machine.specs.Trace.{Trace, value_by, value_from, value_at, source_of, ordered, event_of, recorded, IsNext}
-use Rattle.fsl_machine.specs.Serial.{Stores, IsLastOf, AreBegun, IsSerial}
+use Rattle.fsl_machine.specs.Trace.{Trace, value_by, value_from, value_at, source_of, event_of, recorded, IsNext}
+use Rattle.fsl_machine.specs.Serial.{Stores, IsLastOf, IsSerial}
 use Rattle.fsl_machine.proofs.Puts.{writes_put, writes_put_other, begun_put, ascends_put}
 use Rattle.fsl_machine.proofs.Snoc.{get_more, get_last, get_cases, get_within, get_before, get_there}
 

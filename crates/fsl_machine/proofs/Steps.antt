@@ -1,14 +1,14 @@
 -- What a machine keeps over a step.
-use Rattle.std.proofs.Common.{◌≡◌, ◌<◌, ◌≤◌, ◌+◌, ◌++◌, ℕ, zero, suc, Bool, true, false, ◌==◌, List, [], ◌∷◌, length, length-append, slice_get, Option, Some, None, ℤ, pos, refl, ap, sym, subst, ◌∙◌, arith}
+use Rattle.std.proofs.Common.{◌≡◌, ◌≤◌, ◌+◌, ℕ, true, false, ◌==◌, [], ◌∷◌, length, length-append, Option, Some, None, refl, ap, sym, subst, ◌∙◌, arith}
 use Rattle.std.proofs.lemmas.Bool.Decides.{nat_tests}
 use Rattle.std.specs.Option.{IfSome}
 use Rattle.fsl_core.specs.declared.label.Label.{Label}
 use Rattle.fsl_core.specs.declared.need.Need.{Need}
 use Rattle.fsl_core.specs.declared.need.Reply.{Reply}
 use Rattle.fsl_core.specs.declared.program.Program.{Program}
-use Rattle.fsl_core.specs.Moves.{Config, need_of, moved, move_of, start_of}
+use Rattle.fsl_core.specs.Moves.{Config, need_of, moved, start_of}
 use Rattle.fsl_core.specs.Straight.{is_straight}
-use Rattle.fsl_graph.specs.Execution.{Runs, stands, events_of}
+use Rattle.fsl_graph.specs.Execution.{Runs, stands}
 use Rattle.fsl_graph.specs.Lone.{is_plain}
 use Rattle.fsl_moves.specs.declared.config.Config.{Config as Place}
 use Rattle.fsl_moves.specs.Configs.{config_of, Fits}
@@ -18,7 +18,7 @@ use Rattle.fsl_machine.specs.Labels.{label_by}
 use Rattle.fsl_machine.specs.Machines.{IsRun}
 use Rattle.fsl_machine.specs.States.{State, grown, lone_graph, need_in, move_in, next_state}
 use Rattle.fsl_machine.specs.Steps.{readiness_of, refusal_of}
-use Rattle.fsl_machine.specs.Trace.{Trace, answer_of, recorded, event_of, IsNext}
+use Rattle.fsl_machine.specs.Trace.{Trace, answer_of, event_of}
 use Rattle.fsl_machine.proofs.Moves.{is_plain_move}
 use Rattle.fsl_machine.proofs.Runs.{is_shown, one_move}
 

@@ -1,5 +1,5 @@
 -- What a machine keeps.
-use Rattle.std.specs.Prelude.{ℕ, ◌≡◌, ◌≤◌, true, List, [], length}
+use Rattle.std.specs.Prelude.{ℕ, ◌≡◌, ◌≤◌, true, [], length}
 use Rattle.fsl_core.specs.declared.program.Program.{Program}
 use Rattle.fsl_core.specs.Moves.{start_of}
 use Rattle.fsl_core.specs.Straight.{is_straight}

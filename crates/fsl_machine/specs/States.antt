@@ -1,5 +1,5 @@
 -- States of a machine on one thread, and its moves.
-use Rattle.std.specs.Prelude.{ℕ, suc, ◌+◌, Bool, true, false, List, [], ◌∷◌, Option, Some, None}
+use Rattle.std.specs.Prelude.{ℕ, ◌+◌, List, [], ◌∷◌, Option, Some, None}
 use Rattle.fsl_core.specs.declared.label.Label.{Label}
 use Rattle.fsl_core.specs.declared.need.Need.{Need}
 use Rattle.fsl_core.specs.declared.program.Program.{Program}

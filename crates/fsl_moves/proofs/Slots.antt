@@ -7,7 +7,7 @@ use Rattle.fsl_core.specs.declared.expr.Part.{Part}
 use Rattle.fsl_core.specs.declared.expr.Cond.{Cond}
 use Rattle.fsl_core.specs.declared.expr.Cond.TheVariants as cond
 use Rattle.fsl_core.specs.declared.expr.CmpOp.TheVariants as cmp_op
-use Rattle.fsl_core.specs.declared.expr.Expr.TheOpen.{Expr-F, Part-F}
+use Rattle.fsl_core.specs.declared.expr.Expr.TheOpen.{Expr-F}
 use Rattle.fsl_core.specs.declared.expr.Expr.TheFolds.{ind-Expr, fold-Part, map-Expr, fold-roll-Expr, fold_out-Part}
 use Rattle.fsl_core.specs.Straight.{Test, sum_step, is_sum, is_equation}
 use Rattle.fsl_core.specs.Values.{slots_step, part_slots_step, part_slots_below, slots_below, cond_slots_below}

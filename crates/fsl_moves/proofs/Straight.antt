@@ -1,5 +1,5 @@
 -- The statements of a straight program are straight.
-use Rattle.std.proofs.Common.{◌≡◌, ℕ, zero, suc, true, List, [], ◌∷◌, ◌<◌, ◌==◌, length, slice_get, get_or, arith, Option, Some, None, ℤ, ap, ◌∙◌}
+use Rattle.std.proofs.Common.{◌≡◌, ℕ, zero, suc, true, List, [], ◌∷◌, ◌<◌, ◌==◌, length, slice_get, get_or, arith, ℤ}
 use Rattle.std.proofs.lemmas.Bool.{and_parts}
 use Rattle.std.proofs.lemmas.Bool.Decides.{nat_tests}
 use Rattle.std.specs.List.{list_all}

@@ -1,6 +1,6 @@
 -- Configurations that keep a position in the program, and the configurations of the definition that they
 -- stand for.
-use Rattle.std.specs.Prelude.{ℕ, ◌≡◌, ◌≤◌, slice_get, List, [], ◌∷◌, length, Option, Some, None, drop}
+use Rattle.std.specs.Prelude.{ℕ, ◌≡◌, ◌≤◌, slice_get, List, [], length, Option, Some, None, drop}
 use Rattle.fsl_core.specs.declared.act.Stmt.{Stmt}
 use Rattle.fsl_core.specs.declared.program.Proc.{Proc}
 use Rattle.fsl_core.specs.declared.program.Program.{Program}
