@@ -86,7 +86,11 @@ done
             1,
             "failed main 1:33 uninit\n",
         ),
-        ("proc main() { print(x); }", 3, "refused type 1:21 unknown\n"),
+        (
+            "proc main() { print(x); }",
+            3,
+            "refused type 1:21 unknown\n",
+        ),
         ("proc main() { while (true) { } }", 3, "refused form\n"),
     ] {
         expect(
