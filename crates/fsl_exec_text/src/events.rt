@@ -52,7 +52,7 @@ fn rmw_text(
     Ok(Text::from_string(format!(in alloc; "rmw {mode} {loc} {old} {new}{source}")?))
 }
 
-/// `fork T1 T2`
+/// `fork T U`
 fn fork_text(alloc: Global, children: &List<u32>) -> Result<Text, AllocError>
     ensures { IfOk result (λ text. text ≡ codes "fork" ++ numbers children.now) }
 {
@@ -61,7 +61,7 @@ fn fork_text(alloc: Global, children: &List<u32>) -> Result<Text, AllocError>
     Ok(text)
 }
 
-/// `join T1=V1 T2=V2`
+/// `join T=V U=W`
 fn join_text(alloc: Global, listed: &List<Ended>) -> Result<Text, AllocError>
     ensures { IfOk result (λ text. text ≡ codes "join" ++ results listed.now) }
 {
