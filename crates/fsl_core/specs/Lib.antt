@@ -8,4 +8,5 @@ pub mod Straight
 pub mod Terms
 pub mod Values
 pub mod Verdicts
+pub mod WellFormed
 pub mod logic
