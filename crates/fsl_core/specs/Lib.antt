@@ -8,3 +8,4 @@ pub mod Straight
 pub mod Terms
 pub mod Values
 pub mod Verdicts
+pub mod logic
