@@ -1,0 +1,4 @@
+pub mod Asked
+pub mod Branches
+pub mod Built
+pub mod Sides
