@@ -3,11 +3,18 @@
 #![tactic(auto)]
 
 mod asked;
+mod bound;
 mod branch;
 mod built;
+mod cells;
+mod consuming;
 mod deciding;
 mod given;
+mod join;
+mod pointed;
+mod producing;
 mod sides;
+mod take;
 mod terms;
 
 pub use branch::{Bound, Branch, Decided};
