@@ -5,3 +5,4 @@ pub mod Laws
 pub mod Parts
 pub mod Slots
 pub mod Taking
+pub mod Walking

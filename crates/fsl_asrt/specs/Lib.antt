@@ -5,3 +5,4 @@ pub mod Cells
 pub mod Pointed
 pub mod Sides
 pub mod Taken
+pub mod Ways

@@ -16,8 +16,10 @@ mod producing;
 mod sides;
 mod take;
 mod terms;
+mod walk;
 
 pub use branch::{Bound, Branch, Decided};
 pub use built::is_built;
 pub use deciding::{assume_cond, decide, decide_cond, demand_cond};
 pub use terms::term;
+pub use walk::{consume, produce};
