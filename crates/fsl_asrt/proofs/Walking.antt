@@ -20,8 +20,7 @@ use Rattle.fsl_core.specs.States.{Env}
 use Rattle.fsl_core.specs.logic.States.{State, goes, Branches, Rule, followed}
 use Rattle.fsl_core.specs.logic.Terms.{expr_of}
 use Rattle.fsl_core.specs.logic.Deciding.{Condition, cond_of, decided}
-use Rattle.fsl_core.specs.logic.Producing.{chosen, all_produced}
-use Rattle.fsl_core.specs.logic.Consuming.{all_consumed}
+use Rattle.fsl_core.specs.logic.Producing.{chosen}
 use Rattle.fsl_core.specs.logic.Assertions.{Assertion, choice, asrt_step, asrt_of}
 
 -- the first of several, on each branch, and then the others
