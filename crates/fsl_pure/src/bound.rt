@@ -4,7 +4,7 @@ ghost use Rattle.fsl_lin.specs.Numbers.{part, listed, most, same_above};
 ghost use Rattle.fsl_lin.specs.Facts.{by_bound, by_constant};
 ghost use Rattle.fsl_pure.specs.Table.{some_have};
 
-use crate::shared::Shared;
+use crate::sharing::Shared;
 use fsl_lin::{Lin, Sym, is_constant};
 
 /// Whether a term is a constant of at most 0.

@@ -10,8 +10,7 @@ ghost use Rattle.fsl_pure.specs.Table.{contradict, some_have};
 
 use crate::bound::{by_bound, by_constant, have};
 use crate::difference::edge_of;
-use crate::push::{push, shared};
-use crate::shared::Shared;
+use crate::sharing::{Shared, push, share_each};
 use crate::table::{lay_unless, walks};
 use fsl_bounds::Bounds;
 use fsl_lin::{Eqs, Lin, LinFault, PLACES, Sym};
@@ -129,7 +128,7 @@ impl Kept {
         ensures { IfOk result (λ kept. kept ≡ self.now) }
     {
         Ok(Kept {
-            bounds: shared(alloc, self.bounds.as_slice())?,
+            bounds: share_each(alloc, self.bounds.as_slice())?,
             table: self.table.copy(alloc)?,
             refuted: self.refuted,
         })

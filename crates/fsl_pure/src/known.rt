@@ -13,8 +13,7 @@ use crate::equated::kept_after;
 use crate::fault::PureFault;
 use crate::kept::Kept;
 use crate::next::Next;
-use crate::push::{push, shared};
-use crate::shared::Shared;
+use crate::sharing::{Shared, push, share_each};
 use crate::sums::{difference, is_zero, negate};
 use fsl_base::TryClone;
 use fsl_lin::{Eqs, Fact, Lin, LinFault, PLACES, Sym, Took};
@@ -200,7 +199,7 @@ impl Known {
         ensures { IfOk result (λ known. known ≡ self.now) }
     {
         Ok(Known {
-            facts: shared(alloc, self.facts.as_slice())?,
+            facts: share_each(alloc, self.facts.as_slice())?,
             symbols: self.symbols,
             eqs: self.eqs.try_clone(alloc)?,
             kept: self.kept.copy(alloc)?,

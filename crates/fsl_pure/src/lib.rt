@@ -9,8 +9,7 @@ mod kept;
 mod known;
 mod next;
 mod pure;
-mod push;
-mod shared;
+mod sharing;
 mod sums;
 mod table;
 #[cfg(test)]
@@ -18,3 +17,4 @@ mod tests;
 
 pub use fault::PureFault;
 pub use pure::Pure;
+pub use sharing::{Shared, push, share_each};

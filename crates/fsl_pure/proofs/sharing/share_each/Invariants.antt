@@ -1,5 +1,5 @@
 use Rattle.std.proofs.Common.{◌≡◌, take}
-use Rattle.fsl_pure.proofs.push.shared.Given as goal
+use Rattle.fsl_pure.proofs.sharing.share_each.Given as goal
 
 abbrev pub invariant-loop-item : goal.invariant-loop-item
 invariant-loop-item g l = l.same.items ≡ take l.item-index l.items

@@ -1,0 +1,4 @@
+pub mod Branches
+pub mod Listed
+pub mod Lists
+pub mod Sought
