@@ -2,5 +2,10 @@ pub mod Assumed
 pub mod Equal
 pub mod Last
 pub mod Laws
+pub mod Scanning
+pub mod Setting
+pub mod Slots
+pub mod Stepping
 pub mod Straight
 pub mod Symbols
+pub mod Weighing

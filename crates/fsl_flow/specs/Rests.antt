@@ -1,0 +1,92 @@
+-- The ends of the paths behind a statement, and how much of the text is left to follow.
+use Rattle.std.specs.Prelude.{◌≤◌, ℕ, ◌+◌, ◌*◌, Bool, true, false, ◌&&◌, List, [], ◌∷◌, ◌++◌, map, sum}
+use Rattle.fsl_base.specs.declared.span.Span.{Span}
+use Rattle.fsl_core.specs.declared.act.Act.{Act}
+use Rattle.fsl_core.specs.declared.act.Stmt.{Stmt}
+use Rattle.fsl_core.specs.declared.act.Act.TheOpen.{Act-F, Stmt-F}
+use Rattle.fsl_core.specs.declared.act.Act.TheFolds.{fold-Act, fold-Stmt}
+use Rattle.fsl_core.specs.declared.verdict.Outcome.{Outcome}
+use Rattle.fsl_core.specs.declared.verdict.Outcome.TheVariants.{Derived, Fails}
+use Rattle.fsl_core.specs.logic.Terms.{expr_of}
+use Rattle.fsl_core.specs.logic.Deciding.{cond_of}
+use Rattle.fsl_core.specs.logic.Assertions.{asrt_of}
+use Rattle.fsl_core.specs.logic.Paths.{Ends, Meaning, Reading, each, block, act_step, stmt_step, stmt_of, reading_by, closing, path_ends, give_inv, body_ends, behind_ends}
+use Rattle.fsl_asrt.specs.Built as assertions
+use Rattle.fsl_flow.specs.Built.{are_built}
+use Rattle.fsl_flow.specs.declared.job.Job.{Job}
+use Rattle.fsl_flow.specs.declared.rest.Rest.{Rest}
+use Rattle.fsl_flow.specs.declared.rest.Rest.TheOpen.{Rest-F}
+use Rattle.fsl_flow.specs.declared.rest.Rest.TheFolds.{fold-Rest}
+use Rattle.fsl_flow.specs.declared.rest.Round.{Round}
+
+-- how the statements of a procedure are read
+abbrev pub reading : Job → Reading
+reading job = reading_by expr_of asrt_of job.program.now job.proc.now
+
+abbrev pub act_meaning : Reading → Act → Span → Meaning
+act_meaning r = fold-Act (Span → Meaning) Meaning (act_step r) stmt_step
+
+abbrev pub meanings : Reading → List Stmt → List Meaning
+meanings r stmts = map (stmt_of r) stmts
+
+-- a round of a loop on a path of its own, and then what comes behind the loop
+abbrev pub loop_ends : Reading → Round → Ends → Ends
+loop_ends r x up s =
+    body_ends (cond_of r.expr x.cond.now) (r.asrt x.inv.now) (meanings r x.body.now) x.at x.declared s
+    ++ behind_ends (cond_of r.expr x.cond.now) (r.asrt x.inv.now) (meanings r x.body.now) x.at x.declared up s
+
+abbrev pub rest_step : Reading → Rest-F Ends → Ends
+rest_step r (Rest-F.Over at) = path_ends at
+rest_step r (Rest-F.Closing at) = closing r.post at
+rest_step r (Rest-F.Back at inv) = λ s. each at (give_inv (r.asrt inv.now) s) (λ x. path_ends at)
+rest_step r (Rest-F.Then stmts declared up) = λ s. block (meanings r stmts.now) declared s up.now
+rest_step r (Rest-F.Loop round up) = loop_ends r round up.now
+
+-- the ends of the paths behind a statement
+abbrev pub rest_ends : Reading → Rest → Ends
+rest_ends r = fold-Rest Ends (rest_step r)
+
+-- every statement and every invariant behind is of a built program
+abbrev pub built_step : Rest-F Bool → Bool
+built_step (Rest-F.Over at) = true
+built_step (Rest-F.Closing at) = true
+built_step (Rest-F.Back at inv) = assertions.is_built inv.now
+built_step (Rest-F.Then stmts declared up) = are_built stmts.now && up.now
+built_step (Rest-F.Loop round up) = assertions.is_built round.inv.now && are_built round.body.now && up.now
+
+abbrev pub is_built_rest : Rest → Bool
+is_built_rest = fold-Rest Bool built_step
+
+-- at most 65536 paths are derived
+abbrev pub IsWithin : Outcome → Type 0
+IsWithin (Derived paths) = paths ≤ 65536
+IsWithin (Fails proc at kind) = Unit {0}
+
+-- ---- what is left to follow
+
+abbrev pub weight_step : Act-F ℕ ℕ → ℕ
+weight_step (Act-F.If cond a b) = sum a + sum b
+weight_step (Act-F.While cond inv body) = sum body + 5
+weight_step _ = 0
+
+abbrev pub stmt_weight_step : Stmt-F ℕ ℕ → ℕ
+stmt_weight_step stmt = stmt.act + 2
+
+abbrev pub act_weight : Act → ℕ
+act_weight = fold-Act ℕ ℕ weight_step stmt_weight_step
+
+abbrev pub stmt_weight : Stmt → ℕ
+stmt_weight = fold-Stmt ℕ ℕ weight_step stmt_weight_step
+
+abbrev pub weight : List Stmt → ℕ
+weight stmts = sum (map stmt_weight stmts)
+
+abbrev pub rest_weight_step : Rest-F ℕ → ℕ
+rest_weight_step (Rest-F.Over at) = 0
+rest_weight_step (Rest-F.Closing at) = 1
+rest_weight_step (Rest-F.Back at inv) = 1
+rest_weight_step (Rest-F.Then stmts declared up) = weight stmts.now + up.now + 1
+rest_weight_step (Rest-F.Loop round up) = weight round.body.now + up.now + 4
+
+abbrev pub rest_weight : Rest → ℕ
+rest_weight = fold-Rest ℕ rest_weight_step
