@@ -1,7 +1,13 @@
 pub mod Assumed
+pub mod Building
+pub mod Ending
 pub mod Equal
+pub mod Following
 pub mod Last
 pub mod Laws
+pub mod Leaving
+pub mod Owning
+pub mod Padding
 pub mod Scanning
 pub mod Setting
 pub mod Slots

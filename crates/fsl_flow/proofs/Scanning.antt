@@ -15,7 +15,7 @@ goes_next : (number c : ℕ) (at : Span) (xs ys : List End) (k : ℕ) (room : Bo
 goes_next number c at xs ys k true more h = more h
 goes_next number c at xs ys k false more h = cc
 
-goes_from : (number c : ℕ) (xs ys : List End) (k : ℕ) → outcome_from number c xs ≡ Derived k
+pub goes_from : (number c : ℕ) (xs ys : List End) (k : ℕ) → outcome_from number c xs ≡ Derived k
     → outcome_from number c (xs ++ ys) ≡ outcome_from number k ys
 goes_from number c [] ys k h = cc
 goes_from number c (derived at ∷ xs) ys k h = goes_next number c at xs ys k (nat_lt c 65536) (goes_from number (c + 1) xs ys k) h
@@ -28,7 +28,7 @@ fails_next : (number c : ℕ) (at : Span) (xs ys : List End) (n : ℕ) (place : 
 fails_next number c at xs ys n place kind true more h = more h
 fails_next number c at xs ys n place kind false more h = h
 
-fails_from : (number c : ℕ) (xs ys : List End) (n : ℕ) (place : Span) (kind : Kind) → outcome_from number c xs ≡ Fails n place kind
+pub fails_from : (number c : ℕ) (xs ys : List End) (n : ℕ) (place : Span) (kind : Kind) → outcome_from number c xs ≡ Fails n place kind
     → outcome_from number c (xs ++ ys) ≡ Fails n place kind
 fails_from number c [] ys n place kind h = cc
 fails_from number c (derived at ∷ xs) ys n place kind h =

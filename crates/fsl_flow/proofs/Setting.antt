@@ -13,7 +13,7 @@ use Rattle.fsl_flow.specs.Rests.{act_meaning, meanings}
 pub stmt_layer : (r : Reading) (stmt : Stmt) → stmt_of r stmt ≡ act_meaning r stmt.act stmt.span
 stmt_layer r stmt = fold_out-Stmt (Span → Meaning) Meaning (act_step r) stmt_step stmt
 
-sets_layer : (stmt : Stmt) → stmt_sets stmt ≡ act_sets stmt.act
+pub sets_layer : (stmt : Stmt) → stmt_sets stmt ≡ act_sets stmt.act
 sets_layer stmt = fold_out-Stmt Slots Slots sets_step (λ s. s.act) stmt
 
 all_joined : {Y : Type 0} (b : Y → Stmt) (g : Stmt → Meaning) (h : Stmt → Slots) → ((y : Y) → (g (b y)).sets ≡ h (b y))

@@ -26,3 +26,6 @@ any_first number stmt stmts =
 pub any_append : (number : ℕ) (xs ys : List ℕ)
     → list_any (λ slot. slot == number) (xs ++ ys) ≡ (list_any (λ slot. slot == number) xs || list_any (λ slot. slot == number) ys)
 any_append number xs ys = list_any-append (λ slot. slot == number) xs ys
+
+pub past_both : (declared m n : ℕ) (xs ys : List ℕ) → m ≡ past declared xs → n ≡ past m ys → n ≡ past declared (xs ++ ys)
+past_both declared m n xs ys h k = k ∙ ap (λ (d : ℕ). past d ys) h ∙ sym (past_append declared xs ys)

@@ -5,7 +5,7 @@ ghost use Rattle.fsl_core.specs.logic.Terms.{expr_of};
 ghost use Rattle.fsl_core.specs.logic.Accesses.{alloc_na, load_na, store_na};
 ghost use Rattle.fsl_chunk.specs.Branches.{branches};
 ghost use Rattle.fsl_asrt.specs.Cells.{IsPoints};
-ghost use Rattle.fsl_flow.specs.Owned.{addressed, placed, written};
+ghost use Rattle.fsl_flow.specs.Owned.{addressed, placed, loaded, written};
 
 use fsl_asrt::{FoundCell, cell_at, constant, read};
 use fsl_base::TryClone;
@@ -18,6 +18,7 @@ use std::alloc::{AllocError, Global};
 const FULL: i128 = 1 << 63;
 
 /// A cell is allocated. Its address is a new symbol that is at least 1.
+#[tactic(auto, using(crate::proofs::Owning::allocated, crate::proofs::Following::then_goes, crate::proofs::Following::then_fails))]
 pub fn alloc_na(alloc: Global, state: State, slot: u32) -> Result<Went, AllocError>
     ensures { IfOk result (λ went. branches went ≡ alloc_na slot state) }
 {
@@ -60,6 +61,7 @@ fn placed(alloc: Global, state: State, slot: u32, at: Lin) -> Result<Went, Alloc
 }
 
 /// A load of the cell at an address; a variable is set to its value.
+#[tactic(auto, using(crate::proofs::Owning::load_found, crate::proofs::Owning::load_none, crate::proofs::Owning::load_wide))]
 pub fn load_na(alloc: Global, state: State, slot: u32, at: &Expr) -> Result<Went, AllocError>
     ensures { IfOk result (λ went. branches went ≡ load_na slot (expr_of at.now) state) }
 {
@@ -67,16 +69,16 @@ pub fn load_na(alloc: Global, state: State, slot: u32, at: &Expr) -> Result<Went
         return Ok(Went::Fails { kind: Kind::Term });
     };
     match cell_at(alloc, &state, Rung::Plain, &a)? {
-        Some(c) => loaded(alloc, state, slot, c),
+        Some(FoundCell { value, .. }) => loaded(alloc, state, slot, value),
         None => Ok(Went::Fails { kind: Kind::Points }),
     }
 }
 
 /// A variable is set to the value of a cell, which has to be known.
-fn loaded(alloc: Global, state: State, slot: u32, c: FoundCell) -> Result<Went, AllocError>
-    ensures { IfOk result (λ went. branches went ≡ loaded slot c.value state) }
+fn loaded(alloc: Global, state: State, slot: u32, value: Option<Lin>) -> Result<Went, AllocError>
+    ensures { IfOk result (λ went. branches went ≡ loaded slot value state) }
 {
-    match c.value {
+    match value {
         Some(v) => {
             let mut state = state;
             state.set(alloc, slot, v)?;
@@ -87,6 +89,7 @@ fn loaded(alloc: Global, state: State, slot: u32, c: FoundCell) -> Result<Went, 
 }
 
 /// A store to the cell at an address, of which all shares have to be owned.
+#[tactic(auto, using(crate::proofs::Owning::store_found, crate::proofs::Owning::store_none, crate::proofs::Owning::store_wide, crate::proofs::Owning::value_wide, crate::proofs::Owning::points_found))]
 pub fn store_na(alloc: Global, state: State, at: &Expr, e: &Expr) -> Result<Went, AllocError>
     ensures { IfOk result (λ went. branches went ≡ store_na (expr_of at.now) (expr_of e.now) state) }
 {

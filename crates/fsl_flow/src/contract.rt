@@ -35,7 +35,7 @@ fn without_env(alloc: Global, bound: List<Bound>) -> Result<List<Branch>, AllocE
     let mut out = List::new(alloc);
     for branch in bound.into_vec() {
         match branch {
-            Bound::Goes { state, .. } => out.push(Branch::Goes { state })?,
+            Bound::Goes { state, env: _env } => out.push(Branch::Goes { state })?,
             Bound::Fails { kind } => out.push(Branch::Fails { kind })?,
         }
     }
@@ -60,6 +60,7 @@ fn with_env(alloc: Global, bound: List<Bound>) -> Result<List<Branch>, AllocErro
 }
 
 /// The procedure ends with a result: its `ensures` is consumed, and what is left is dropped.
+#[tactic(auto, using(crate::proofs::Following::from_here))]
 pub fn finish(alloc: Global, state: State, post: &Asrt, t: Lin) -> Result<List<Branch>, AllocError>
     requires { IsTrue (is_built post.now) }
     ensures { IfOk result (λ bs. branches bs ≡ calls.finish (asrt_of post.now) t state) }
@@ -80,6 +81,7 @@ pub fn close(alloc: Global, state: State, post: &Asrt) -> Result<List<Branch>, A
 }
 
 /// A `return`: the procedure ends with the result of an expression.
+#[tactic(auto, using(crate::proofs::Ending::returned, crate::proofs::Ending::not_returned))]
 pub fn return_with(
     alloc: Global,
     state: State,
@@ -96,6 +98,7 @@ pub fn return_with(
 }
 
 /// The invariant of a loop is given: it is consumed.
+#[tactic(auto, using(crate::proofs::Following::from_here))]
 pub fn give_inv(alloc: Global, state: State, inv: &Asrt) -> Result<List<Branch>, AllocError>
     requires { IsTrue (is_built inv.now) }
     ensures { IfOk result (λ bs. branches bs ≡ give_inv (asrt_of inv.now) state) }
@@ -106,6 +109,7 @@ pub fn give_inv(alloc: Global, state: State, inv: &Asrt) -> Result<List<Branch>,
 }
 
 /// New symbols for so many parameters, behind one another.
+#[tactic(auto, using(crate::proofs::Following::symbols_goes, crate::proofs::Following::symbols_fails))]
 fn new_symbols(alloc: Global, state: State, params: u32) -> Result<Bound, AllocError>
     ensures { IfOk result (λ bound. bound_of bound ∷ [] ≡ new_symbols params state) }
 {
@@ -124,6 +128,7 @@ fn new_symbols(alloc: Global, state: State, params: u32) -> Result<Bound, AllocE
 }
 
 /// An environment with a zero for each slot that is not set yet.
+#[tactic(auto, using(crate::proofs::Padding::padded_more, crate::proofs::Padding::padded_full))]
 fn padded(alloc: Global, env: Env, slots: u32) -> Result<Env, AllocError>
     ensures { IfOk result (λ all. all ≡ padded slots env) }
 {
@@ -136,6 +141,7 @@ fn padded(alloc: Global, env: Env, slots: u32) -> Result<Env, AllocError>
 }
 
 /// A procedure starts with new symbols for its parameters, and what its `requires` says.
+#[tactic(auto, using(crate::proofs::Following::then_goes, crate::proofs::Following::then_fails))]
 pub fn enter(alloc: Global, proc: &Proc) -> Result<List<Branch>, AllocError>
     requires { IsTrue (is_built proc.now.pre) }
     ensures { IfOk result (λ bs. branches bs ≡ enter (contract_of asrt_of proc.now) start) }

@@ -1,15 +1,15 @@
 //! What holds at some round of a loop: its invariant, where the variables that its body sets have new symbols.
-ghost use Rattle.std.specs.Prelude.{◌≡◌, true, IfOk, IsTrue};
-ghost use Rattle.fsl_core.specs.logic.States.{followed, here, ◌>>=◌, ◌>>◌};
+ghost use Rattle.std.specs.Prelude.{◌≡◌, IfOk, IsTrue};
+ghost use Rattle.fsl_core.specs.logic.States.{followed};
 ghost use Rattle.fsl_core.specs.logic.Terms.{expr_of};
-ghost use Rattle.fsl_core.specs.logic.Deciding.{cond_of, assume_cond, decided};
+ghost use Rattle.fsl_core.specs.logic.Deciding.{cond_of, assume_cond};
 ghost use Rattle.fsl_core.specs.logic.Assertions.{asrt_of};
 ghost use Rattle.fsl_core.specs.logic.Slots.{renew};
-ghost use Rattle.fsl_core.specs.logic.Paths.{round, drop_chunks};
+ghost use Rattle.fsl_core.specs.logic.Paths.{round};
 ghost use Rattle.fsl_chunk.specs.Branches as chunks;
 ghost use Rattle.fsl_asrt.specs.Branches.{branches, bounds, decided as decisions};
 ghost use Rattle.fsl_asrt.specs.Built.{is_built};
-ghost use Rattle.fsl_flow.specs.Rounds.{produced};
+ghost use Rattle.fsl_flow.specs.Rounds.{decided_here, produced, body_round};
 ghost use Rattle.fsl_flow.specs.Sets.{stmts_set};
 
 use crate::contract::failing;
@@ -22,14 +22,16 @@ use fsl_core::{Cond, Rung, Stmt};
 use std::alloc::{AllocError, Global};
 
 /// Decides a condition over the variables as they are.
+#[tactic(auto, using(crate::proofs::Following::from_here))]
 pub fn decide(alloc: Global, state: State, cond: &Cond) -> Result<List<Decided>, AllocError>
-    ensures { IfOk result (λ ds. decisions ds ≡ (here >>= decided (cond_of expr_of cond.now)) state) }
+    ensures { IfOk result (λ ds. decisions ds ≡ decided_here (cond_of expr_of cond.now) state) }
 {
     let env = state.env().fork(alloc)?;
     decide_cond(alloc, state, cond, &env)
 }
 
 /// Of the declared slots, those that statements set get new symbols, in ascending order.
+#[tactic(auto, using(crate::proofs::Following::renew_goes, crate::proofs::Following::renew_skips, crate::proofs::Following::renew_fails))]
 fn renew(alloc: Global, state: State, declared: u64, body: &[Stmt]) -> Result<Went, AllocError>
     ensures { IfOk result (λ went. chunks.branches went ≡ renew declared (stmts_set body.now) state) }
 {
@@ -61,7 +63,7 @@ fn assume_each(
     let mut out = List::new(alloc);
     for branch in bound.into_vec() {
         match branch {
-            Bound::Goes { state, .. } => {
+            Bound::Goes { state, env: _own } => {
                 let more = assume_cond(alloc, state, answer, cond, env)?;
                 out.append(more)?;
             }
@@ -72,6 +74,7 @@ fn assume_each(
 }
 
 /// The invariant is produced, and what the condition then says is assumed.
+#[tactic(auto, using(crate::proofs::Following::from_here))]
 fn produced(
     alloc: Global,
     state: State,
@@ -88,6 +91,7 @@ fn produced(
 }
 
 /// What holds at some round, where the condition has this answer.
+#[tactic(auto, using(crate::proofs::Following::then_goes, crate::proofs::Following::then_gone, crate::proofs::Following::then_fails))]
 pub fn at_round(
     alloc: Global,
     state: State,
@@ -107,7 +111,7 @@ pub fn at_round(
 /// What holds at some round in which the body runs. It owns nothing but the invariant.
 pub fn at_body(alloc: Global, state: State, x: &Round<'_>) -> Result<List<Branch>, AllocError>
     requires { IsTrue (is_built x.now.inv.now) }
-    ensures { IfOk result (λ bs. branches bs ≡ (drop_chunks >> round true (cond_of expr_of x.now.cond.now) (asrt_of x.now.inv.now) x.now.declared (stmts_set x.now.body.now)) state) }
+    ensures { IfOk result (λ bs. branches bs ≡ body_round (cond_of expr_of x.now.cond.now) (asrt_of x.now.inv.now) x.now.declared (stmts_set x.now.body.now) state) }
 {
     let mut state = state;
     state.drop_chunks(alloc)?;

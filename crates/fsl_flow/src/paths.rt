@@ -34,6 +34,7 @@ const NOWHERE: Span = Span { from: 0, to: 0 };
 
 /// The outcome of a procedure, by its number: its first failure, else how many paths it has. The 65537th path that
 /// ends fails `Paths` unless it fails by itself.
+#[tactic(auto, using(crate::proofs::Building::proc_built))]
 pub fn outcome(alloc: Global, p: &Program, proc: u32) -> Result<Outcome, AllocError>
     requires built { IsTrue (is_built p.now) }
     requires in_range { proc < length p.now.procs }
@@ -81,6 +82,7 @@ fn over(number: u32, at: Span, count: u32) -> Outcome
 
 /// Follows statements, and what is behind them, where so many paths have ended before.
 #[cycle(walk)]
+#[tactic(auto, using(crate::proofs::Stepping::block_goes, crate::proofs::Stepping::block_gone, crate::proofs::Stepping::block_fails, crate::proofs::Weighing::weight_first, crate::proofs::Building::head_built, crate::proofs::Building::tail_built))]
 fn follow(
     alloc: Global,
     job: &Job<'_>,
@@ -196,6 +198,7 @@ fn branch(
 
 /// Follows the branches of a decision, each into one of two blocks.
 #[cycle(walk)]
+#[tactic(auto, using(crate::proofs::Scanning::on_goes, crate::proofs::Scanning::on_fails))]
 fn choose(
     alloc: Global,
     job: &Job<'_>,
@@ -217,23 +220,35 @@ fn choose(
 {
     let mut count = count;
     for side in sides.into_vec() {
-        let ended = match side {
-            Decided::Goes { state, holds: true } => follow(
+        match side {
+            Decided::Goes { state, holds: true } => match follow(
                 alloc, job, state, yes, declared, rest, count,
-            )?,
+            )? {
+                Outcome::Derived { paths } => count = paths,
+                Outcome::Fails { proc, span, kind } => return Ok(Outcome::Fails {
+                    proc,
+                    span,
+                    kind,
+                }),
+            },
             Decided::Goes {
                 state,
                 holds: false,
-            } => follow(alloc, job, state, no, declared, rest, count)?,
-            Decided::Fails { kind } => Outcome::Fails {
-                proc: job.number,
-                span: at,
-                kind,
+            } => match follow(alloc, job, state, no, declared, rest, count)? {
+                Outcome::Derived { paths } => count = paths,
+                Outcome::Fails { proc, span, kind } => return Ok(Outcome::Fails {
+                    proc,
+                    span,
+                    kind,
+                }),
             },
-        };
-        match ended {
-            Outcome::Derived { paths } => count = paths,
-            Outcome::Fails { .. } => return Ok(ended),
+            Decided::Fails { kind } => {
+                return Ok(Outcome::Fails {
+                    proc: job.number,
+                    span: at,
+                    kind,
+                });
+            }
         }
     }
     Ok(Outcome::Derived { paths: count })
@@ -241,6 +256,7 @@ fn choose(
 
 /// Follows the branches of a rule, each into what is behind it.
 #[cycle(walk)]
+#[tactic(auto, using(crate::proofs::Scanning::on_goes, crate::proofs::Scanning::on_fails))]
 fn each(
     alloc: Global,
     job: &Job<'_>,
@@ -257,17 +273,22 @@ fn each(
 {
     let mut count = count;
     for branch in going.into_vec() {
-        let ended = match branch {
-            Branch::Goes { state } => leave(alloc, job, state, rest, count)?,
-            Branch::Fails { kind } => Outcome::Fails {
-                proc: job.number,
-                span: at,
-                kind,
+        match branch {
+            Branch::Goes { state } => match leave(alloc, job, state, rest, count)? {
+                Outcome::Derived { paths } => count = paths,
+                Outcome::Fails { proc, span, kind } => return Ok(Outcome::Fails {
+                    proc,
+                    span,
+                    kind,
+                }),
             },
-        };
-        match ended {
-            Outcome::Derived { paths } => count = paths,
-            Outcome::Fails { .. } => return Ok(ended),
+            Branch::Fails { kind } => {
+                return Ok(Outcome::Fails {
+                    proc: job.number,
+                    span: at,
+                    kind,
+                });
+            }
         }
     }
     Ok(Outcome::Derived { paths: count })

@@ -29,6 +29,7 @@ pub fn is_simple(act: &Act) -> bool
 }
 
 /// A variable is set to the term of an expression.
+#[tactic(auto, using(crate::proofs::Ending::set_some, crate::proofs::Ending::set_none))]
 fn set_to(alloc: Global, state: State, slot: u32, e: &Expr) -> Result<Went, AllocError>
     ensures { IfOk result (λ went. branches went ≡ set_to slot (expr_of e.now) state) }
 {
@@ -43,6 +44,7 @@ fn set_to(alloc: Global, state: State, slot: u32, e: &Expr) -> Result<Went, Allo
 }
 
 /// A condition that has to be proved.
+#[tactic(auto, using(crate::proofs::Following::from_here))]
 fn assert(alloc: Global, state: State, cond: &Cond) -> Result<Went, AllocError>
     ensures { IfOk result (λ went. branches went ≡ assert (cond_of expr_of cond.now) state) }
 {
@@ -51,6 +53,7 @@ fn assert(alloc: Global, state: State, cond: &Cond) -> Result<Went, AllocError>
 }
 
 /// A number is printed, which has to have a term.
+#[tactic(auto, using(crate::proofs::Ending::print_some, crate::proofs::Ending::print_none))]
 fn print(alloc: Global, state: State, e: &Expr) -> Result<Went, AllocError>
     ensures { IfOk result (λ went. branches went ≡ print (expr_of e.now) state) }
 {

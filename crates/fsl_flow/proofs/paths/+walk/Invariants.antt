@@ -34,7 +34,7 @@ invariant-follow-loop-stmt l = record {
   built : are_built l.stmts ≡ true;
   lighter : weight l.stmts ≤ weight l.fn.stmts.now;
   so_far : block (meanings (reading l.job) l.stmts) l.declared l.state (rest_ends (reading l.job) l.up)
-    ≡ block (meanings (reading l.job) l.fn.stmts.now) l.fn.declared l.fn.state (rest_ends (reading l.job) l.up);
+      ≡ block (meanings (reading l.job) l.fn.stmts.now) l.fn.declared l.fn.state (rest_ends (reading l.job) l.up);
 }
 
 abbrev pub invariant-choose-loop-side : goal.invariant-choose-loop-side
@@ -43,9 +43,9 @@ invariant-choose-loop-side l = record {
   finite : (goal.iterator-choose-loop-side).is_finite l.side-iterator;
   few : l.count ≤ 65536;
   so_far : outcome_from l.job.number l.count (each l.at (decided l.side-iterator.rest.items) (λ holds t.
-    block (chosen (meanings (reading l.job) l.yes) (meanings (reading l.job) l.no) holds) l.declared t (rest_ends (reading l.job) l.rest)))
-    ≡ outcome_from l.job.number l.fn.count (each l.at (decided l.fn.sides) (λ holds t.
-    block (chosen (meanings (reading l.job) l.yes) (meanings (reading l.job) l.no) holds) l.declared t (rest_ends (reading l.job) l.rest)));
+      block (chosen (meanings (reading l.job) l.yes) (meanings (reading l.job) l.no) holds) l.declared t (rest_ends (reading l.job) l.rest)))
+      ≡ outcome_from l.job.number l.fn.count (each l.at (decided l.fn.sides) (λ holds t.
+      block (chosen (meanings (reading l.job) l.yes) (meanings (reading l.job) l.no) holds) l.declared t (rest_ends (reading l.job) l.rest)));
 }
 
 abbrev pub invariant-each-loop-branch : goal.invariant-each-loop-branch
@@ -54,5 +54,5 @@ invariant-each-loop-branch l = record {
   finite : (goal.iterator-each-loop-branch).is_finite l.branch-iterator;
   few : l.count ≤ 65536;
   so_far : outcome_from l.job.number l.count (each l.at (branches l.branch-iterator.rest.items) (λ x. rest_ends (reading l.job) l.rest))
-    ≡ outcome_from l.job.number l.fn.count (each l.at (branches l.fn.going) (λ x. rest_ends (reading l.job) l.rest));
+      ≡ outcome_from l.job.number l.fn.count (each l.at (branches l.fn.going) (λ x. rest_ends (reading l.job) l.rest));
 }
