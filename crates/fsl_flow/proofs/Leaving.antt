@@ -1,5 +1,6 @@
 -- What comes behind a statement, one level at a time, and statements that branch or end the path.
 use Rattle.std.proofs.Common.{◌≡◌, ℕ, Bool, true, false, List, [], ◌∷◌, ◌++◌, refl, sym, ap, ◌∙◌}
+use Rattle.std.specs.Borrow.{Bor}
 use Rattle.fsl_base.specs.declared.span.Span.{Span}
 use Rattle.fsl_core.specs.declared.act.Stmt.{Stmt}
 use Rattle.fsl_core.specs.declared.act.Act.TheOpen.{Act-F}
@@ -36,14 +37,14 @@ over_rest r at = ap (rest_ends r) (sym (rest.rolls-Over at)) ∙ fold-roll-Rest 
 pub closing_rest : (r : Reading) (at : Span) → rest_ends r (rest.Closing at) ≡ closing r.post at
 closing_rest r at = ap (rest_ends r) (sym (rest.rolls-Closing at)) ∙ fold-roll-Rest Ends (rest_step r) (Rest-F.Closing at)
 
-pub back_rest : (r : Reading) (at : Span) (inv : _) → rest_ends r (rest.Back at inv) ≡ (λ s. each at (give_inv (r.asrt inv.now) s) (λ x. path_ends at))
+pub back_rest : (r : Reading) (at : Span) (inv : Bor Asrt) → rest_ends r (rest.Back at inv) ≡ (λ s. each at (give_inv (r.asrt inv.now) s) (λ x. path_ends at))
 back_rest r at inv = ap (rest_ends r) (sym (rest.rolls-Back at inv)) ∙ fold-roll-Rest Ends (rest_step r) (Rest-F.Back at inv)
 
-pub then_rest : (r : Reading) (stmts : _) (declared : ℕ) (up : _)
+pub then_rest : (r : Reading) (stmts : Bor (List Stmt)) (declared : ℕ) (up : Bor Rest)
     → rest_ends r (rest.Then stmts declared up) ≡ (λ s. block (meanings r stmts.now) declared s (rest_ends r up.now))
 then_rest r stmts declared up = ap (rest_ends r) (sym (rest.rolls-Then stmts declared up)) ∙ fold-roll-Rest Ends (rest_step r) (Rest-F.Then stmts declared up)
 
-pub loop_rest : (r : Reading) (x : Round) (up : _) → rest_ends r (rest.Loop x up) ≡ loop_ends r x (rest_ends r up.now)
+pub loop_rest : (r : Reading) (x : Round) (up : Bor Rest) → rest_ends r (rest.Loop x up) ≡ loop_ends r x (rest_ends r up.now)
 loop_rest r x up = ap (rest_ends r) (sym (rest.rolls-Loop x up)) ∙ fold-roll-Rest Ends (rest_step r) (Rest-F.Loop x up)
 
 -- ---- statements that branch or end the path

@@ -1,5 +1,6 @@
 pub mod Assumed
 pub mod Building
+pub mod Contracting
 pub mod Ending
 pub mod Equal
 pub mod Following

@@ -35,7 +35,7 @@ allocated slot s =
 
 sought : {X Y : Type 0} (k : Kind) (reads : Reading X) (s : State) (after : Found Chunk X → Rule Y)
     → (find_or k reads >>= after) s ≡ followed (demand_some k (first (reads s.facts) s.chunks) s) after
-sought k reads s after = ap (λ (bs : Branches (Found Chunk _)). followed bs after) (append-nil (demand_some k (first (reads s.facts) s.chunks) s))
+sought {X = X} k reads s after = ap (λ (bs : Branches (Found Chunk X)). followed bs after) (append-nil (demand_some k (first (reads s.facts) s.chunks) s))
 
 -- ---- loads
 

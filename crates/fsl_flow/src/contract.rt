@@ -60,7 +60,7 @@ fn with_env(alloc: Global, bound: List<Bound>) -> Result<List<Branch>, AllocErro
 }
 
 /// The procedure ends with a result: its `ensures` is consumed, and what is left is dropped.
-#[tactic(auto, using(crate::proofs::Following::from_here))]
+#[tactic(auto, using(crate::proofs::Contracting::finished))]
 pub fn finish(alloc: Global, state: State, post: &Asrt, t: Lin) -> Result<List<Branch>, AllocError>
     requires { IsTrue (is_built post.now) }
     ensures { IfOk result (λ bs. branches bs ≡ calls.finish (asrt_of post.now) t state) }
@@ -98,7 +98,7 @@ pub fn return_with(
 }
 
 /// The invariant of a loop is given: it is consumed.
-#[tactic(auto, using(crate::proofs::Following::from_here))]
+#[tactic(auto, using(crate::proofs::Contracting::inv_given))]
 pub fn give_inv(alloc: Global, state: State, inv: &Asrt) -> Result<List<Branch>, AllocError>
     requires { IsTrue (is_built inv.now) }
     ensures { IfOk result (λ bs. branches bs ≡ give_inv (asrt_of inv.now) state) }
@@ -133,7 +133,7 @@ fn padded(alloc: Global, env: Env, slots: u32) -> Result<Env, AllocError>
     ensures { IfOk result (λ all. all ≡ padded slots env) }
 {
     let mut all = env;
-    while all.len() < slots as usize {
+    'pad: while all.len() < slots as usize {
         let zero = constant(alloc, 0)?;
         all.push(alloc, zero)?;
     }
@@ -141,7 +141,7 @@ fn padded(alloc: Global, env: Env, slots: u32) -> Result<Env, AllocError>
 }
 
 /// A procedure starts with new symbols for its parameters, and what its `requires` says.
-#[tactic(auto, using(crate::proofs::Following::then_goes, crate::proofs::Following::then_fails))]
+#[tactic(auto, using(crate::proofs::Contracting::entered, crate::proofs::Contracting::not_entered))]
 pub fn enter(alloc: Global, proc: &Proc) -> Result<List<Branch>, AllocError>
     requires { IsTrue (is_built proc.now.pre) }
     ensures { IfOk result (λ bs. branches bs ≡ enter (contract_of asrt_of proc.now) start) }

@@ -22,7 +22,7 @@ use fsl_core::{Cond, Rung, Stmt};
 use std::alloc::{AllocError, Global};
 
 /// Decides a condition over the variables as they are.
-#[tactic(auto, using(crate::proofs::Following::from_here))]
+#[tactic(auto, using(crate::proofs::Contracting::decided_so))]
 pub fn decide(alloc: Global, state: State, cond: &Cond) -> Result<List<Decided>, AllocError>
     ensures { IfOk result (λ ds. decisions ds ≡ decided_here (cond_of expr_of cond.now) state) }
 {
@@ -74,7 +74,7 @@ fn assume_each(
 }
 
 /// The invariant is produced, and what the condition then says is assumed.
-#[tactic(auto, using(crate::proofs::Following::from_here))]
+#[tactic(auto, using(crate::proofs::Contracting::produced_so))]
 fn produced(
     alloc: Global,
     state: State,
@@ -91,7 +91,7 @@ fn produced(
 }
 
 /// What holds at some round, where the condition has this answer.
-#[tactic(auto, using(crate::proofs::Following::then_goes, crate::proofs::Following::then_gone, crate::proofs::Following::then_fails))]
+#[tactic(auto, using(crate::proofs::Contracting::round_goes, crate::proofs::Contracting::round_gone, crate::proofs::Contracting::round_fails))]
 pub fn at_round(
     alloc: Global,
     state: State,
@@ -109,6 +109,7 @@ pub fn at_round(
 }
 
 /// What holds at some round in which the body runs. It owns nothing but the invariant.
+#[tactic(auto, using(crate::proofs::Contracting::body_so))]
 pub fn at_body(alloc: Global, state: State, x: &Round<'_>) -> Result<List<Branch>, AllocError>
     requires { IsTrue (is_built x.now.inv.now) }
     ensures { IfOk result (λ bs. branches bs ≡ body_round (cond_of expr_of x.now.cond.now) (asrt_of x.now.inv.now) x.now.declared (stmts_set x.now.body.now) state) }

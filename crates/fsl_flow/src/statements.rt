@@ -44,7 +44,7 @@ fn set_to(alloc: Global, state: State, slot: u32, e: &Expr) -> Result<Went, Allo
 }
 
 /// A condition that has to be proved.
-#[tactic(auto, using(crate::proofs::Following::from_here))]
+#[tactic(auto, using(crate::proofs::Contracting::asserted))]
 fn assert(alloc: Global, state: State, cond: &Cond) -> Result<Went, AllocError>
     ensures { IfOk result (λ went. branches went ≡ assert (cond_of expr_of cond.now) state) }
 {
