@@ -15,4 +15,4 @@ pub mod Slots
 pub mod Stepping
 pub mod Straight
 pub mod Symbols
-pub mod Weighing
+pub mod Walking

@@ -7,8 +7,11 @@ use Rattle.fsl_core.specs.declared.act.Act.TheOpen.{Act-F, Stmt-F}
 use Rattle.fsl_core.specs.declared.act.Act.TheFolds.{fold-Act, fold-Stmt}
 use Rattle.fsl_core.specs.declared.verdict.Outcome.{Outcome}
 use Rattle.fsl_core.specs.declared.verdict.Outcome.TheVariants.{Derived, Fails}
+use Rattle.fsl_core.specs.Paths.{End}
+use Rattle.fsl_core.specs.logic.States.{State, Branches}
 use Rattle.fsl_core.specs.logic.Terms.{expr_of}
 use Rattle.fsl_core.specs.logic.Deciding.{cond_of}
+use Rattle.fsl_core.specs.logic.Producing.{chosen}
 use Rattle.fsl_core.specs.logic.Assertions.{asrt_of}
 use Rattle.fsl_core.specs.logic.Paths.{Ends, Meaning, Reading, each, block, act_step, stmt_step, stmt_of, reading_by, closing, path_ends, give_inv, body_ends, behind_ends}
 use Rattle.fsl_asrt.specs.Built as assertions
@@ -46,6 +49,33 @@ rest_step r (Rest-F.Loop round up) = loop_ends r round up.now
 abbrev pub rest_ends : Reading → Rest → Ends
 rest_ends r = fold-Rest Ends (rest_step r)
 
+-- ---- the ends of paths, as the walk comes to them. These words stay closed outside of the laws on them.
+
+-- behind a statement
+unfoldable pub ends_behind : Job → Rest → State → List End
+ends_behind job rest s = rest_ends (reading job) rest s
+
+-- of statements, and of what is behind them
+unfoldable pub block_ends : Job → List Stmt → ℕ → State → Rest → List End
+block_ends job stmts declared s up = block (meanings (reading job) stmts) declared s (rest_ends (reading job) up)
+
+-- of one statement
+unfoldable pub act_ends : Job → Act → Span → ℕ → State → Rest → List End
+act_ends job act at declared s rest = (act_meaning (reading job) act at).ends declared s (rest_ends (reading job) rest)
+
+-- of the branches of a rule
+unfoldable pub each_ends : Job → Span → Branches (Unit {0}) → Rest → List End
+each_ends job at bs rest = each at bs (λ _. rest_ends (reading job) rest)
+
+-- of the branches of a decision, each with one of two blocks
+unfoldable pub sides_ends : Job → Span → Branches Bool → List Stmt → List Stmt → ℕ → Rest → List End
+sides_ends job at bs a b declared rest =
+    each at bs (λ holds t. block (chosen (meanings (reading job) a) (meanings (reading job) b) holds) declared t (rest_ends (reading job) rest))
+
+-- of a loop to which its invariant was given
+unfoldable pub turn_ends : Job → Round → Rest → State → List End
+turn_ends job x up s = loop_ends (reading job) x (rest_ends (reading job) up) s
+
 -- every statement and every invariant behind is of a built program
 abbrev pub built_step : Rest-F Bool → Bool
 built_step (Rest-F.Over at) = true
@@ -54,7 +84,7 @@ built_step (Rest-F.Back at inv) = assertions.is_built inv.now
 built_step (Rest-F.Then stmts declared up) = are_built stmts.now && up.now
 built_step (Rest-F.Loop round up) = assertions.is_built round.inv.now && are_built round.body.now && up.now
 
-abbrev pub is_built_rest : Rest → Bool
+unfoldable pub is_built_rest : Rest → Bool
 is_built_rest = fold-Rest Bool built_step
 
 -- at most 65536 paths are derived
@@ -72,13 +102,13 @@ weight_step _ = 0
 abbrev pub stmt_weight_step : Stmt-F ℕ ℕ → ℕ
 stmt_weight_step stmt = stmt.act + 2
 
-abbrev pub act_weight : Act → ℕ
+unfoldable pub act_weight : Act → ℕ
 act_weight = fold-Act ℕ ℕ weight_step stmt_weight_step
 
 abbrev pub stmt_weight : Stmt → ℕ
 stmt_weight = fold-Stmt ℕ ℕ weight_step stmt_weight_step
 
-abbrev pub weight : List Stmt → ℕ
+unfoldable pub weight : List Stmt → ℕ
 weight stmts = sum (map stmt_weight stmts)
 
 abbrev pub rest_weight_step : Rest-F ℕ → ℕ
@@ -88,5 +118,5 @@ rest_weight_step (Rest-F.Back at inv) = 1
 rest_weight_step (Rest-F.Then stmts declared up) = weight stmts.now + up.now + 1
 rest_weight_step (Rest-F.Loop round up) = weight round.body.now + up.now + 4
 
-abbrev pub rest_weight : Rest → ℕ
+unfoldable pub rest_weight : Rest → ℕ
 rest_weight = fold-Rest ℕ rest_weight_step

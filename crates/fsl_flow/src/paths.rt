@@ -4,13 +4,11 @@ ghost use Rattle.std.specs.Prelude.{◌≡◌, ◌<◌, ◌≤◌, [], ◌∷◌
 ghost use Rattle.std.specs.Option.{option_map};
 ghost use Rattle.fsl_core.specs.Paths.{derived};
 ghost use Rattle.fsl_core.specs.Verdicts.{outcome_from};
-ghost use Rattle.fsl_core.specs.logic.Producing.{chosen};
-ghost use Rattle.fsl_core.specs.logic.Paths.{each, block};
 ghost use Rattle.fsl_core.specs.logic.Verdicts.{outcome_of};
 ghost use Rattle.fsl_asrt.specs.Branches.{branches, decided};
 ghost use Rattle.fsl_asrt.specs.Built as assertions;
 ghost use Rattle.fsl_flow.specs.Built.{is_built, is_built_act, is_built_proc, are_built};
-ghost use Rattle.fsl_flow.specs.Rests.{reading, act_meaning, meanings, loop_ends, rest_ends, is_built_rest, IsWithin};
+ghost use Rattle.fsl_flow.specs.Rests.{ends_behind, block_ends, act_ends, each_ends, sides_ends, turn_ends, is_built_rest, IsWithin};
 ghost use Rattle.fsl_flow.specs.Simple.{is_simple};
 
 use crate::contract::{close, enter, give_inv, return_with};
@@ -49,6 +47,7 @@ pub fn outcome(alloc: Global, p: &Program, proc: u32) -> Result<Outcome, AllocEr
 }
 
 /// The outcome of a procedure.
+#[tactic(auto, using(crate::proofs::Walking::judged))]
 fn judge(alloc: Global, job: &Job<'_>) -> Result<Outcome, AllocError>
     requires { IsTrue (is_built_proc job.now.proc.now) }
     ensures { IfOk result (λ o. o ≡ outcome_of job.now.program.now job.now.number job.now.proc.now) }
@@ -82,7 +81,7 @@ fn over(number: u32, at: Span, count: u32) -> Outcome
 
 /// Follows statements, and what is behind them, where so many paths have ended before.
 #[cycle(walk)]
-#[tactic(auto, using(crate::proofs::Stepping::block_goes, crate::proofs::Stepping::block_gone, crate::proofs::Stepping::block_fails, crate::proofs::Weighing::weight_first, crate::proofs::Building::head_built, crate::proofs::Building::tail_built))]
+#[tactic(auto, using(crate::proofs::Walking::block_empty, crate::proofs::Walking::block_goes, crate::proofs::Walking::block_gone, crate::proofs::Walking::block_fails, crate::proofs::Walking::then_first, crate::proofs::Walking::then_weight, crate::proofs::Walking::then_built, crate::proofs::Walking::weight_first))]
 fn follow(
     alloc: Global,
     job: &Job<'_>,
@@ -96,7 +95,7 @@ fn follow(
     requires post { IsTrue (assertions.is_built job.now.proc.now.post) }
     requires built { IsTrue (are_built stmts.now) }
     requires rest { IsTrue (is_built_rest up.now) }
-    ensures exact { IfOk result (λ o. o ≡ outcome_from job.now.number count (block (meanings (reading job.now) stmts.now) declared state (rest_ends (reading job.now) up.now))) }
+    ensures exact { IfOk result (λ o. o ≡ outcome_from job.now.number count (block_ends job.now stmts.now declared state up.now)) }
     ensures within { IfOk result IsWithin }
 {
     let mut state = state;
@@ -131,6 +130,7 @@ fn follow(
 
 /// Follows a statement that branches or ends the path.
 #[cycle(walk)]
+#[tactic(auto, using(crate::proofs::Walking::act_if, crate::proofs::Walking::act_while, crate::proofs::Walking::act_return, crate::proofs::Walking::over_built, crate::proofs::Walking::loop_built, crate::proofs::Walking::over_weight, crate::proofs::Walking::loop_weight, crate::proofs::Walking::if_weight, crate::proofs::Walking::while_weight))]
 fn branch(
     alloc: Global,
     job: &Job<'_>,
@@ -145,7 +145,7 @@ fn branch(
     requires built { IsTrue (is_built_act stmt.now.act) }
     requires splits { is_simple stmt.now.act ≡ false }
     requires rest { IsTrue (is_built_rest rest.now) }
-    ensures exact { IfOk result (λ o. o ≡ outcome_from job.now.number count ((act_meaning (reading job.now) stmt.now.act stmt.now.span).ends declared state (rest_ends (reading job.now) rest.now))) }
+    ensures exact { IfOk result (λ o. o ≡ outcome_from job.now.number count (act_ends job.now stmt.now.act stmt.now.span declared state rest.now)) }
     ensures within { IfOk result IsWithin }
 {
     match &stmt.act {
@@ -198,7 +198,7 @@ fn branch(
 
 /// Follows the branches of a decision, each into one of two blocks.
 #[cycle(walk)]
-#[tactic(auto, using(crate::proofs::Scanning::on_goes, crate::proofs::Scanning::on_fails))]
+#[tactic(auto, using(crate::proofs::Walking::yes_goes, crate::proofs::Walking::no_goes, crate::proofs::Walking::yes_stops, crate::proofs::Walking::no_stops, crate::proofs::Walking::sides_fail, crate::proofs::Walking::sides_done))]
 fn choose(
     alloc: Global,
     job: &Job<'_>,
@@ -215,7 +215,7 @@ fn choose(
     requires built_yes { IsTrue (are_built yes.now) }
     requires built_no { IsTrue (are_built no.now) }
     requires rest { IsTrue (is_built_rest rest.now) }
-    ensures exact { IfOk result (λ o. o ≡ outcome_from job.now.number count (each at (decided sides) (λ holds t. block (chosen (meanings (reading job.now) yes.now) (meanings (reading job.now) no.now) holds) declared t (rest_ends (reading job.now) rest.now)))) }
+    ensures exact { IfOk result (λ o. o ≡ outcome_from job.now.number count (sides_ends job.now at (decided sides) yes.now no.now declared rest.now)) }
     ensures within { IfOk result IsWithin }
 {
     let mut count = count;
@@ -256,7 +256,7 @@ fn choose(
 
 /// Follows the branches of a rule, each into what is behind it.
 #[cycle(walk)]
-#[tactic(auto, using(crate::proofs::Scanning::on_goes, crate::proofs::Scanning::on_fails))]
+#[tactic(auto, using(crate::proofs::Walking::each_goes, crate::proofs::Walking::each_stops, crate::proofs::Walking::each_fails, crate::proofs::Walking::each_done))]
 fn each(
     alloc: Global,
     job: &Job<'_>,
@@ -268,7 +268,7 @@ fn each(
     requires few { count ≤ 65536 }
     requires post { IsTrue (assertions.is_built job.now.proc.now.post) }
     requires rest { IsTrue (is_built_rest rest.now) }
-    ensures exact { IfOk result (λ o. o ≡ outcome_from job.now.number count (each at (branches going) (λ _. rest_ends (reading job.now) rest.now))) }
+    ensures exact { IfOk result (λ o. o ≡ outcome_from job.now.number count (each_ends job.now at (branches going) rest.now)) }
     ensures within { IfOk result IsWithin }
 {
     let mut count = count;
@@ -296,6 +296,7 @@ fn each(
 
 /// Follows what is behind the statements of a block.
 #[cycle(walk)]
+#[tactic(auto, using(crate::proofs::Walking::behind_over, crate::proofs::Walking::behind_closing, crate::proofs::Walking::behind_back, crate::proofs::Walking::behind_then, crate::proofs::Walking::behind_loop, crate::proofs::Walking::over_built, crate::proofs::Walking::then_built, crate::proofs::Walking::loop_built, crate::proofs::Walking::back_built, crate::proofs::Walking::over_weight, crate::proofs::Walking::closing_weight, crate::proofs::Walking::back_weight, crate::proofs::Walking::then_weight, crate::proofs::Walking::loop_weight))]
 fn leave(
     alloc: Global,
     job: &Job<'_>,
@@ -306,7 +307,7 @@ fn leave(
     requires few { count ≤ 65536 }
     requires post { IsTrue (assertions.is_built job.now.proc.now.post) }
     requires rest { IsTrue (is_built_rest rest.now) }
-    ensures exact { IfOk result (λ o. o ≡ outcome_from job.now.number count (rest_ends (reading job.now) rest.now state)) }
+    ensures exact { IfOk result (λ o. o ≡ outcome_from job.now.number count (ends_behind job.now rest.now state)) }
     ensures within { IfOk result IsWithin }
 {
     match rest {
@@ -330,6 +331,7 @@ fn leave(
 
 /// Follows a round of a loop on paths of their own, and then what is behind the loop.
 #[cycle(walk)]
+#[tactic(auto, using(crate::proofs::Walking::turn_goes, crate::proofs::Walking::turn_fails, crate::proofs::Walking::then_built, crate::proofs::Walking::back_built, crate::proofs::Walking::then_weight, crate::proofs::Walking::back_weight))]
 fn turn(
     alloc: Global,
     job: &Job<'_>,
@@ -343,7 +345,7 @@ fn turn(
     requires inv { IsTrue (assertions.is_built round.now.inv.now) }
     requires body { IsTrue (are_built round.now.body.now) }
     requires rest { IsTrue (is_built_rest up.now) }
-    ensures exact { IfOk result (λ o. o ≡ outcome_from job.now.number count (loop_ends (reading job.now) round.now (rest_ends (reading job.now) up.now) state)) }
+    ensures exact { IfOk result (λ o. o ≡ outcome_from job.now.number count (turn_ends job.now round.now up.now state)) }
     ensures within { IfOk result IsWithin }
 {
     let apart = state.fork(alloc)?;

@@ -1,10 +1,8 @@
 use Rattle.std.proofs.Common.{◌≡◌, ◌≤◌, ◌+◌, ◌*◌, true, length}
 use Rattle.fsl_core.specs.Verdicts.{outcome_from}
-use Rattle.fsl_core.specs.logic.Producing.{chosen}
-use Rattle.fsl_core.specs.logic.Paths.{each, block}
 use Rattle.fsl_asrt.specs.Branches.{branches, decided}
 use Rattle.fsl_flow.specs.Built.{are_built}
-use Rattle.fsl_flow.specs.Rests.{reading, meanings, rest_ends, act_weight, weight, rest_weight}
+use Rattle.fsl_flow.specs.Rests.{block_ends, each_ends, sides_ends, act_weight, weight, rest_weight}
 use Rattle.fsl_flow.proofs.paths.+walk.Given as goal
 
 -- what is left to follow, and by which function
@@ -33,8 +31,7 @@ abbrev pub invariant-follow-loop-stmt : goal.invariant-follow-loop-stmt
 invariant-follow-loop-stmt l = record {
   built : are_built l.stmts ≡ true;
   lighter : weight l.stmts ≤ weight l.fn.stmts.now;
-  so_far : block (meanings (reading l.job) l.stmts) l.declared l.state (rest_ends (reading l.job) l.up)
-      ≡ block (meanings (reading l.job) l.fn.stmts.now) l.fn.declared l.fn.state (rest_ends (reading l.job) l.up);
+  so_far : block_ends l.job l.stmts l.declared l.state l.up ≡ block_ends l.job l.fn.stmts.now l.fn.declared l.fn.state l.up;
 }
 
 abbrev pub invariant-choose-loop-side : goal.invariant-choose-loop-side
@@ -42,10 +39,8 @@ invariant-choose-loop-side l = record {
   can : (goal.iterator-choose-loop-side).can_next l.side-iterator;
   finite : (goal.iterator-choose-loop-side).is_finite l.side-iterator;
   few : l.count ≤ 65536;
-  so_far : outcome_from l.job.number l.count (each l.at (decided l.side-iterator.rest.items) (λ holds t.
-      block (chosen (meanings (reading l.job) l.yes) (meanings (reading l.job) l.no) holds) l.declared t (rest_ends (reading l.job) l.rest)))
-      ≡ outcome_from l.job.number l.fn.count (each l.at (decided l.fn.sides) (λ holds t.
-      block (chosen (meanings (reading l.job) l.yes) (meanings (reading l.job) l.no) holds) l.declared t (rest_ends (reading l.job) l.rest)));
+  so_far : outcome_from l.job.number l.count (sides_ends l.job l.at (decided l.side-iterator.rest.items) l.yes l.no l.declared l.rest)
+    ≡ outcome_from l.job.number l.fn.count (sides_ends l.job l.at (decided l.fn.sides) l.yes l.no l.declared l.rest);
 }
 
 abbrev pub invariant-each-loop-branch : goal.invariant-each-loop-branch
@@ -53,6 +48,6 @@ invariant-each-loop-branch l = record {
   can : (goal.iterator-each-loop-branch).can_next l.branch-iterator;
   finite : (goal.iterator-each-loop-branch).is_finite l.branch-iterator;
   few : l.count ≤ 65536;
-  so_far : outcome_from l.job.number l.count (each l.at (branches l.branch-iterator.rest.items) (λ x. rest_ends (reading l.job) l.rest))
-      ≡ outcome_from l.job.number l.fn.count (each l.at (branches l.fn.going) (λ x. rest_ends (reading l.job) l.rest));
+  so_far : outcome_from l.job.number l.count (each_ends l.job l.at (branches l.branch-iterator.rest.items) l.rest)
+    ≡ outcome_from l.job.number l.fn.count (each_ends l.job l.at (branches l.fn.going) l.rest);
 }
