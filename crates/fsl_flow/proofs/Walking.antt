@@ -1,7 +1,10 @@
 -- What the walk comes to, one step at a time.
-use Rattle.std.proofs.Common.{◌≡◌, ℕ, ◌+◌, Bool, true, false, ◌&&◌, List, [], ◌∷◌, ◌++◌, map, sum, refl, sym, ap, ◌∙◌}
+use Rattle.std.proofs.Common.{◌≡◌, ℕ, ◌+◌, Bool, true, false, ◌&&◌, List, [], ◌∷◌, ◌++◌, map, refl, sym, ap, ◌∙◌}
 use Rattle.std.specs.Borrow.{Bor}
+use Rattle.std.proofs.Common.{Result, Ok, Err, IfOk}
+use Rattle.std.proofs.lemmas.Bool.{and_parts}
 use Rattle.fsl_base.specs.declared.span.Span.{Span}
+use Rattle.fsl_core.specs.declared.act.Act.{Act}
 use Rattle.fsl_core.specs.declared.act.Act.TheOpen.{Act-F}
 use Rattle.fsl_core.specs.declared.act.Act.TheVariants.{If, While, Return, rolls-If, rolls-While}
 use Rattle.fsl_core.specs.declared.act.Act.TheFolds.{fold-roll-Act, fold_out-Stmt}
@@ -30,8 +33,9 @@ use Rattle.fsl_flow.specs.declared.rest.Rest.TheOpen.{Rest-F}
 use Rattle.fsl_flow.specs.declared.rest.Rest.TheVariants as rest
 use Rattle.fsl_flow.specs.declared.rest.Rest.TheFolds.{fold-roll-Rest}
 use Rattle.fsl_flow.specs.declared.rest.Round.{Round}
-use Rattle.fsl_flow.specs.Built.{are_built}
-use Rattle.fsl_flow.specs.Rests.{reading, act_meaning, meanings, rest_ends, ends_behind, block_ends, act_ends, each_ends, sides_ends, turn_ends, built_step, is_built_rest, weight_step, stmt_weight_step, act_weight, stmt_weight, weight, rest_weight_step, rest_weight}
+use Rattle.fsl_flow.specs.Built as covered
+use Rattle.fsl_flow.specs.Built.{is_built_act, are_built}
+use Rattle.fsl_flow.specs.Rests.{reading, act_meaning, meanings, rest_ends, ends_behind, block_ends, act_ends, each_ends, sides_ends, turn_ends, built_step, is_built_rest, weight_step, stmt_weight_step, act_weight, stmt_weight, weight, rest_weight_step, rest_weight, total}
 use Rattle.fsl_flow.specs.Rounds.{decided_here, body_round}
 use Rattle.fsl_flow.specs.Sets.{act_sets, stmts_set}
 use Rattle.fsl_flow.specs.Simple.{is_simple, action_of}
@@ -255,6 +259,31 @@ pub loop_built : (x : Round) (q : Bor Rest)
 unfolding is_built_rest
 loop_built x q = ap is_built_rest (sym (rest.rolls-Loop x q)) ∙ fold-roll-Rest Bool built_step (Rest-F.Loop x q)
 
+both : (a b : Bool) → a ≡ true → b ≡ true → (a && b) ≡ true
+both a b h k = rw (h, k) refl
+
+pub then_is_built : (p : Bor (List Stmt)) (declared : ℕ) (q : Bor Rest) → are_built p.now ≡ true → is_built_rest q.now ≡ true
+    → is_built_rest (rest.Then p declared q) ≡ true
+then_is_built p declared q h k = then_built p declared q ∙ both (are_built p.now) (is_built_rest q.now) h k
+
+pub loop_is_built : (x : Round) (q : Bor Rest) → assertions.is_built x.inv.now ≡ true → are_built x.body.now ≡ true → is_built_rest q.now ≡ true
+    → is_built_rest (rest.Loop x q) ≡ true
+loop_is_built x q h k l =
+    loop_built x q ∙ both (assertions.is_built x.inv.now && are_built x.body.now) (is_built_rest q.now)
+    (both (assertions.is_built x.inv.now) (are_built x.body.now) h k) l
+
+pub if_built : (act : Act) (cond : Cond) (a b : List Stmt) → act ≡ If cond a b → is_built_act act ≡ true
+    → (are_built a ≡ true) × (are_built b ≡ true)
+if_built act cond a b e h =
+    and_parts (are_built a) (are_built b) (sym (ap is_built_act (sym (rolls-If cond a b))
+    ∙ fold-roll-Act Bool Bool covered.built_step (λ stmt. stmt.act) (Act-F.If cond a b)) ∙ ap is_built_act (sym e) ∙ h)
+
+pub while_built : (act : Act) (cond : Cond) (inv : Asrt) (body : List Stmt) → act ≡ While cond inv body → is_built_act act ≡ true
+    → (assertions.is_built inv ≡ true) × (are_built body ≡ true)
+while_built act cond inv body e h =
+    and_parts (assertions.is_built inv) (are_built body) (sym (ap is_built_act (sym (rolls-While cond inv body))
+    ∙ fold-roll-Act Bool Bool covered.built_step (λ stmt. stmt.act) (Act-F.While cond inv body)) ∙ ap is_built_act (sym e) ∙ h)
+
 -- ---- how much is left
 
 pub over_weight : (at : Span) → rest_weight (rest.Over at) ≡ 0
@@ -287,7 +316,7 @@ while_weight cond inv body = ap act_weight (sym (rolls-While cond inv body)) ∙
 
 pub weight_first : (stmt : Stmt) (stmts : List Stmt) → weight (stmt ∷ stmts) ≡ act_weight stmt.act + 2 + weight stmts
 unfolding act_weight weight
-weight_first stmt stmts = ap (λ (n : ℕ). n + sum (map stmt_weight stmts)) (fold_out-Stmt ℕ ℕ weight_step stmt_weight_step stmt)
+weight_first stmt stmts = ap (λ (n : ℕ). n + total (map stmt_weight stmts)) (fold_out-Stmt ℕ ℕ weight_step stmt_weight_step stmt)
 
 -- ---- a whole procedure
 
@@ -302,3 +331,46 @@ judged job p q bs e f h =
     ∙ ap (λ (k : Ends). each nowhere bs (λ y t. block (meanings (reading job) job.proc.now.body) 0 t k)) (closing_rest (reading job) job.proc.now.last)
     ∙ ap (λ (cs : Branches (Unit {0})). each nowhere cs (λ y t.
     block (meanings (reading job) job.proc.now.body) 0 t (closing (asrt_of job.proc.now.post) job.proc.now.last))) h
+
+-- ---- results of calls
+
+pub left_is : (job : Job) (stmts : List Stmt) (declared : ℕ) (s : State) (up : Rest) (whole : List End) (c : ℕ) {E : Type 0} (r : Result Outcome E)
+    → stmts ≡ [] → block_ends job stmts declared s up ≡ whole → IfOk r (λ o. o ≡ outcome_from job.number c (ends_behind job up s))
+    → IfOk r (λ o. o ≡ outcome_from job.number c whole)
+left_is job stmts declared s up whole c (Ok o) e f h =
+    h ∙ ap (outcome_from job.number c) (sym (block_empty job declared s up)
+    ∙ ap (λ (l : List Stmt). block_ends job l declared s up) (sym e) ∙ f)
+left_is job stmts declared s up whole c (Err d) e f h = tt
+
+pub while_is : (job : Job) (x : Round) (q : Bor Rest) (act : Act) (s : State) (bs : Branches (Unit {0})) (c : ℕ) {E : Type 0} (r : Result Outcome E)
+    → act ≡ While x.cond.now x.inv.now x.body.now → bs ≡ give_inv (asrt_of x.inv.now) s
+    → IfOk r (λ o. o ≡ outcome_from job.number c (each_ends job x.at bs (rest.Loop x q)))
+    → IfOk r (λ o. o ≡ outcome_from job.number c (act_ends job act x.at x.declared s q.now))
+while_is job x q act s bs c (Ok o) e f h =
+    h ∙ ap (λ (cs : Branches (Unit {0})). outcome_from job.number c (each_ends job x.at cs (rest.Loop x q))) f
+    ∙ ap (outcome_from job.number c) (sym (act_while job x q s))
+    ∙ ap (λ (a : Act). outcome_from job.number c (act_ends job a x.at x.declared s q.now)) (sym e)
+while_is job x q act s bs c (Err e) f g h = tt
+
+pub turn_is : (job : Job) (x : Round) (s u : State) (p : Bor (List Stmt)) (q : Bor Rest) (inv : Bor Asrt) (bs cs : Branches (Unit {0})) (up : Rest)
+    (c k : ℕ) {E : Type 0} (r : Result Outcome E)
+    → p.now ≡ x.body.now → q.now ≡ rest.Back x.at inv → inv.now ≡ x.inv.now → u ≡ s
+    → bs ≡ body_round (cond_of expr_of x.cond.now) (asrt_of x.inv.now) x.declared (stmts_set x.body.now) u
+    → cs ≡ round false (cond_of expr_of x.cond.now) (asrt_of x.inv.now) x.declared (stmts_set x.body.now) s
+    → Derived k ≡ outcome_from job.number c (each_ends job x.at bs (rest.Then p x.declared q))
+    → IfOk r (λ o. o ≡ outcome_from job.number k (each_ends job x.at cs up))
+    → IfOk r (λ o. o ≡ outcome_from job.number c (turn_ends job x up s))
+turn_is job x s u p q inv bs cs up c k (Ok o) e f g same h i first then_on =
+    turn_goes job x s p q inv bs cs up c k o e f g
+    (h ∙ ap (λ (v : State). body_round (cond_of expr_of x.cond.now) (asrt_of x.inv.now) x.declared (stmts_set x.body.now) v) same) i first then_on
+turn_is job x s u p q inv bs cs up c k (Err d) e f g same h i first then_on = tt
+
+pub turn_stops : (job : Job) (x : Round) (s u : State) (p : Bor (List Stmt)) (q : Bor Rest) (inv : Bor Asrt) (bs : Branches (Unit {0})) (up : Rest)
+    (c n : ℕ) (place : Span) (kind : Kind)
+    → p.now ≡ x.body.now → q.now ≡ rest.Back x.at inv → inv.now ≡ x.inv.now → u ≡ s
+    → bs ≡ body_round (cond_of expr_of x.cond.now) (asrt_of x.inv.now) x.declared (stmts_set x.body.now) u
+    → Fails n place kind ≡ outcome_from job.number c (each_ends job x.at bs (rest.Then p x.declared q))
+    → Fails n place kind ≡ outcome_from job.number c (turn_ends job x up s)
+turn_stops job x s u p q inv bs up c n place kind e f g same h first =
+    turn_fails job x s p q inv bs up c n place kind e f g
+    (h ∙ ap (λ (v : State). body_round (cond_of expr_of x.cond.now) (asrt_of x.inv.now) x.declared (stmts_set x.body.now) v) same) first

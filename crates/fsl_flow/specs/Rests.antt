@@ -1,5 +1,5 @@
 -- The ends of the paths behind a statement, and how much of the text is left to follow.
-use Rattle.std.specs.Prelude.{◌≤◌, ℕ, ◌+◌, ◌*◌, Bool, true, false, ◌&&◌, List, [], ◌∷◌, ◌++◌, map, sum}
+use Rattle.std.specs.Prelude.{◌≤◌, ℕ, ◌+◌, ◌*◌, Bool, true, false, ◌&&◌, List, [], ◌∷◌, ◌++◌, map}
 use Rattle.fsl_base.specs.declared.span.Span.{Span}
 use Rattle.fsl_core.specs.declared.act.Act.{Act}
 use Rattle.fsl_core.specs.declared.act.Stmt.{Stmt}
@@ -94,9 +94,13 @@ IsWithin (Fails proc at kind) = Unit {0}
 
 -- ---- what is left to follow
 
+abbrev pub total : List ℕ → ℕ
+total [] = 0
+total (n ∷ ns) = n + total ns
+
 abbrev pub weight_step : Act-F ℕ ℕ → ℕ
-weight_step (Act-F.If cond a b) = sum a + sum b
-weight_step (Act-F.While cond inv body) = sum body + 5
+weight_step (Act-F.If cond a b) = total a + total b
+weight_step (Act-F.While cond inv body) = total body + 5
 weight_step _ = 0
 
 abbrev pub stmt_weight_step : Stmt-F ℕ ℕ → ℕ
@@ -109,7 +113,7 @@ abbrev pub stmt_weight : Stmt → ℕ
 stmt_weight = fold-Stmt ℕ ℕ weight_step stmt_weight_step
 
 unfoldable pub weight : List Stmt → ℕ
-weight stmts = sum (map stmt_weight stmts)
+weight stmts = total (map stmt_weight stmts)
 
 abbrev pub rest_weight_step : Rest-F ℕ → ℕ
 rest_weight_step (Rest-F.Over at) = 0

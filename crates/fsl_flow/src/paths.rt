@@ -81,7 +81,7 @@ fn over(number: u32, at: Span, count: u32) -> Outcome
 
 /// Follows statements, and what is behind them, where so many paths have ended before.
 #[cycle(walk)]
-#[tactic(auto, using(crate::proofs::Walking::block_empty, crate::proofs::Walking::block_goes, crate::proofs::Walking::block_gone, crate::proofs::Walking::block_fails, crate::proofs::Walking::then_first, crate::proofs::Walking::then_weight, crate::proofs::Walking::then_built, crate::proofs::Walking::weight_first))]
+#[tactic(auto, using(crate::proofs::Walking::block_empty, crate::proofs::Walking::block_goes, crate::proofs::Walking::block_gone, crate::proofs::Walking::block_fails, crate::proofs::Walking::then_first, crate::proofs::Walking::then_weight, crate::proofs::Walking::then_is_built, crate::proofs::Walking::weight_first, crate::proofs::Building::head_built, crate::proofs::Building::tail_built))]
 fn follow(
     alloc: Global,
     job: &Job<'_>,
@@ -348,8 +348,7 @@ fn turn(
     ensures exact { IfOk result (λ o. o ≡ outcome_from job.now.number count (turn_ends job.now round.now up.now state)) }
     ensures within { IfOk result IsWithin }
 {
-    let apart = state.fork(alloc)?;
-    let inside = at_body(alloc, apart, round)?;
+    let inside = at_body(alloc, &state, round)?;
     let back = Rest::Back {
         at: round.at,
         inv: round.inv,

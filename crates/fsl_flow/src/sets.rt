@@ -8,7 +8,6 @@ use fsl_core::{Act, Stmt};
 
 /// How many slots are declared behind an act: one more than the highest that is set.
 #[cycle(past)]
-#[tactic(auto, using(crate::proofs::Slots::past_append))]
 pub fn past(declared: u64, act: &Act) -> u64
     ensures { result ≡ past declared (act_sets act.now) }
 {
@@ -33,7 +32,6 @@ pub fn past(declared: u64, act: &Act) -> u64
 
 /// How many slots are declared behind statements.
 #[cycle(past)]
-#[tactic(auto, using(crate::proofs::Slots::past_first))]
 fn past_all(declared: u64, stmts: &[Stmt]) -> u64
     ensures { result ≡ past declared (stmts_set stmts.now) }
 {
@@ -83,7 +81,6 @@ fn set_in(act: &Act, number: u64) -> Option<u32>
 
 /// The slot of this number, where one of the statements sets it.
 #[cycle(set_in)]
-#[tactic(auto, using(crate::proofs::Slots::any_first))]
 pub fn set_among(stmts: &[Stmt], number: u64) -> Option<u32>
     ensures found { is_some result ≡ list_any (λ slot. slot == number) (stmts_set stmts.now) }
     ensures is { IfSome result (λ slot. slot ≡ number) }

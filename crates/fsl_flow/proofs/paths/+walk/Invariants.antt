@@ -30,8 +30,8 @@ decreases-follow-loop-stmt l = length l.stmts
 abbrev pub invariant-follow-loop-stmt : goal.invariant-follow-loop-stmt
 invariant-follow-loop-stmt l = record {
   built : are_built l.stmts ≡ true;
-  lighter : weight l.stmts ≤ weight l.fn.stmts.now;
-  so_far : block_ends l.job l.stmts l.declared l.state l.up ≡ block_ends l.job l.fn.stmts.now l.fn.declared l.fn.state l.up;
+  lighter : weight l.stmts ≤ weight l.fn.stmts;
+  so_far : block_ends l.job l.stmts l.declared l.state l.up ≡ block_ends l.job l.fn.stmts l.fn.declared l.fn.state l.up;
 }
 
 abbrev pub invariant-choose-loop-side : goal.invariant-choose-loop-side
@@ -40,7 +40,7 @@ invariant-choose-loop-side l = record {
   finite : (goal.iterator-choose-loop-side).is_finite l.side-iterator;
   few : l.count ≤ 65536;
   so_far : outcome_from l.job.number l.count (sides_ends l.job l.at (decided l.side-iterator.rest.items) l.yes l.no l.declared l.rest)
-    ≡ outcome_from l.job.number l.fn.count (sides_ends l.job l.at (decided l.fn.sides) l.yes l.no l.declared l.rest);
+      ≡ outcome_from l.job.number l.fn.count (sides_ends l.job l.at (decided l.fn.sides) l.yes l.no l.declared l.rest);
 }
 
 abbrev pub invariant-each-loop-branch : goal.invariant-each-loop-branch
@@ -49,5 +49,5 @@ invariant-each-loop-branch l = record {
   finite : (goal.iterator-each-loop-branch).is_finite l.branch-iterator;
   few : l.count ≤ 65536;
   so_far : outcome_from l.job.number l.count (each_ends l.job l.at (branches l.branch-iterator.rest.items) l.rest)
-    ≡ outcome_from l.job.number l.fn.count (each_ends l.job l.at (branches l.fn.going) l.rest);
+      ≡ outcome_from l.job.number l.fn.count (each_ends l.job l.at (branches l.fn.going) l.rest);
 }
