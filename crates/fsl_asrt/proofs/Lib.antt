@@ -1,1 +1,8 @@
+pub mod FoundCells
+pub mod Joining
+pub mod Keeping
 pub mod Laws
+pub mod Parts
+pub mod Slots
+pub mod Taking
+pub mod Walking
