@@ -10,7 +10,7 @@ use Rattle.fsl_core.specs.logic.States.{State, goes, Branches, Action, ◌>>=◌
 use Rattle.fsl_core.specs.logic.Terms.{fitting}
 use Rattle.fsl_core.specs.logic.Deciding.{assume_at_most}
 use Rattle.fsl_core.specs.logic.Chunks.{Cell, Found, first, put, add, cell_at, cell_chunk}
-use Rattle.fsl_core.specs.logic.Producing.{full, assume_same, known_of, join_cell, add_cell}
+use Rattle.fsl_core.specs.logic.Joining.{full, assume_same, known_of, join_cell, add_cell}
 use Rattle.fsl_lin.specs.Combination.{Combination, plus}
 
 -- the cell that is joined, by how its chunk is put

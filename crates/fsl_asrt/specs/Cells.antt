@@ -11,7 +11,7 @@ use Rattle.fsl_core.specs.logic.States.{State, Action, ◌>>◌, ◌>>=◌, chan
 use Rattle.fsl_core.specs.logic.Terms.{fitting}
 use Rattle.fsl_core.specs.logic.Deciding.{assume_at_most}
 use Rattle.fsl_core.specs.logic.Chunks.{Cell, Found}
-use Rattle.fsl_core.specs.logic.Producing.{full, assume_same, known_of}
+use Rattle.fsl_core.specs.logic.Joining.{full, assume_same, known_of}
 use Rattle.fsl_lin.specs.Combination.{Combination, plus}
 
 abbrev pub cell_of : FoundCell → Cell

@@ -9,7 +9,8 @@ use Rattle.fsl_core.specs.States.{Env}
 use Rattle.fsl_core.specs.logic.Chunks.{Cell}
 use Rattle.fsl_core.specs.logic.States.{Rule, goes, fails, ◌>>=◌, ◌>>◌, give}
 use Rattle.fsl_core.specs.logic.Terms.{Expression, term}
-use Rattle.fsl_core.specs.logic.Producing.{Wanted, any, bind, equals, Pattern, wanted, assume_share, add_wanted, add_cell}
+use Rattle.fsl_core.specs.logic.Joining.{assume_share, add_cell}
+use Rattle.fsl_core.specs.logic.Producing.{Wanted, any, bind, equals, Pattern, wanted, add_wanted}
 use Rattle.fsl_lin.specs.Combination.{Combination}
 
 abbrev pub wanted_of : Value → Wanted Combination

@@ -1,7 +1,7 @@
 //! Shares of cells that are added: a share joins the first chunk of its cell, or is a new chunk.
 ghost use Rattle.std.specs.Prelude.{◌≡◌, pos, IfOk};
 ghost use Rattle.fsl_core.specs.logic.Deciding.{assume_at_most};
-ghost use Rattle.fsl_core.specs.logic.Producing.{full, assume_share, assume_same, known_of, add_cell};
+ghost use Rattle.fsl_core.specs.logic.Joining.{full, assume_share, assume_same, known_of, add_cell};
 ghost use Rattle.fsl_core.specs.declared.chunk.Chunk.TheVariants as chunk;
 ghost use Rattle.fsl_chunk.specs.Branches.{branches};
 ghost use Rattle.fsl_asrt.specs.Cells.{IsPoints, joined_at, summed_at, valued_at, put_at};

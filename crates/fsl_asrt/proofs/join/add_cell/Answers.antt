@@ -5,7 +5,7 @@ use Rattle.fsl_asrt.specs.Cells.{IsFoundBy, joined_at}
 use Rattle.fsl_asrt.proofs.Joining.{joined_first}
 use Rattle.fsl_asrt.proofs.Keeping.{ok_then}
 use Rattle.fsl_core.specs.logic.Chunks.{Cell, first, cell_at}
-use Rattle.fsl_core.specs.logic.Producing.{add_cell}
+use Rattle.fsl_core.specs.logic.Joining.{add_cell}
 use Rattle.fsl_asrt.proofs.join.add_cell.Goals as goal
 
 pub returns-in-Some : goal.returns-in-Some

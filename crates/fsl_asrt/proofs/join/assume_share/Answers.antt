@@ -1,7 +1,7 @@
 use Rattle.std.proofs.Common.{pos, sym}
 use Rattle.fsl_chunk.specs.Branches.{branches}
 use Rattle.fsl_core.specs.logic.Deciding.{assume_at_most}
-use Rattle.fsl_core.specs.logic.Producing.{full}
+use Rattle.fsl_core.specs.logic.Joining.{full}
 use Rattle.fsl_lin.specs.Combination.{constant}
 use Rattle.fsl_asrt.proofs.Keeping.{by_one, ok_then, then_goes, then_gone, then_fails}
 use Rattle.fsl_asrt.proofs.join.assume_share.Goals as goal

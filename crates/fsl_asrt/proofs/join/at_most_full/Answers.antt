@@ -1,5 +1,5 @@
 use Rattle.std.proofs.Common.{◌≡◌}
-use Rattle.fsl_core.specs.logic.Producing.{full}
+use Rattle.fsl_core.specs.logic.Joining.{full}
 use Rattle.fsl_asrt.proofs.join.at_most_full.Goals as goal
 
 pub returns : goal.returns

@@ -1,6 +1,6 @@
 use Rattle.std.proofs.Common.{pos}
 use Rattle.fsl_core.specs.logic.Deciding.{assume_at_most}
-use Rattle.fsl_core.specs.logic.Producing.{full}
+use Rattle.fsl_core.specs.logic.Joining.{full}
 use Rattle.fsl_asrt.proofs.Keeping.{still_points, goes_kept, at_most_kept, went_is}
 use Rattle.fsl_asrt.proofs.join.join_sum.Goals as goal
 

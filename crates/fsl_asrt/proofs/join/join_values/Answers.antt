@@ -1,4 +1,4 @@
-use Rattle.fsl_core.specs.logic.Producing.{assume_same}
+use Rattle.fsl_core.specs.logic.Joining.{assume_same}
 use Rattle.fsl_asrt.proofs.Keeping.{still_points, goes_kept, same_kept, went_is}
 use Rattle.fsl_asrt.proofs.join.join_values.Goals as goal
 

@@ -6,7 +6,8 @@ use Rattle.fsl_asrt.proofs.Keeping.{ok_then}
 use Rattle.fsl_core.specs.declared.verdict.Kind.TheVariants.{Term}
 use Rattle.fsl_core.specs.logic.States.{fails, ◌>>◌}
 use Rattle.fsl_core.specs.logic.Terms.{expr_of}
-use Rattle.fsl_core.specs.logic.Producing.{pat_of, assume_share, add_wanted, points_produced}
+use Rattle.fsl_core.specs.logic.Joining.{assume_share}
+use Rattle.fsl_core.specs.logic.Producing.{pat_of, add_wanted, points_produced}
 use Rattle.fsl_asrt.proofs.producing.points.Goals as goal
 
 pub returns-in-Some : goal.returns-in-Some
