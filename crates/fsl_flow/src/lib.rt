@@ -1,11 +1,20 @@
 //! The paths of a procedure, followed by the rules one statement after the other, up to the first failure.
 #![tactic(auto)]
 
+mod accesses;
 mod cell;
+mod contract;
+mod covered;
+mod job;
 mod known;
+mod looping;
 mod outcomes;
+pub mod paths;
+mod rest;
 mod rules;
+mod sets;
 mod state;
+mod statements;
 mod stop;
 mod term;
 #[cfg(test)]

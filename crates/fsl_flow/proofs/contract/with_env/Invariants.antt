@@ -1,0 +1,12 @@
+use Rattle.std.proofs.Common.{◌≡◌, ◌++◌}
+use Rattle.fsl_core.specs.logic.States.{followed, change}
+use Rattle.fsl_asrt.specs.Branches.{branches, bounds}
+use Rattle.fsl_flow.proofs.contract.with_env.Given as goal
+
+abbrev pub invariant-loop-branch : goal.invariant-loop-branch
+invariant-loop-branch l = record {
+  can : (goal.iterator-loop-branch).can_next l.branch-iterator;
+  finite : (goal.iterator-loop-branch).is_finite l.branch-iterator;
+  so_far : branches l.out ++ followed (bounds l.branch-iterator.rest.items) (λ e. change (λ s. record s { env = e }))
+      ≡ followed (bounds l.fn.bound) (λ e. change (λ s. record s { env = e }));
+}

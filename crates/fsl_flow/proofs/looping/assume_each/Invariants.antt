@@ -1,0 +1,14 @@
+use Rattle.std.proofs.Common.{◌≡◌, ◌++◌}
+use Rattle.fsl_core.specs.logic.States.{followed}
+use Rattle.fsl_core.specs.logic.Terms.{expr_of}
+use Rattle.fsl_core.specs.logic.Deciding.{cond_of, assume_cond}
+use Rattle.fsl_asrt.specs.Branches.{branches, bounds}
+use Rattle.fsl_flow.proofs.looping.assume_each.Given as goal
+
+abbrev pub invariant-loop-branch : goal.invariant-loop-branch
+invariant-loop-branch l = record {
+  can : (goal.iterator-loop-branch).can_next l.branch-iterator;
+  finite : (goal.iterator-loop-branch).is_finite l.branch-iterator;
+  so_far : branches l.out ++ followed (bounds l.branch-iterator.rest.items) (λ _. assume_cond l.answer (cond_of expr_of l.cond) l.env)
+      ≡ followed (bounds l.fn.bound) (λ _. assume_cond l.answer (cond_of expr_of l.cond) l.env);
+}
