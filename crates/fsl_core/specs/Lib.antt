@@ -1,7 +1,9 @@
 pub mod Conditions
 pub mod Facts
+pub mod Marks
 pub mod Moves
 pub mod Paths
+pub mod Programs
 pub mod Rules
 pub mod States
 pub mod Straight

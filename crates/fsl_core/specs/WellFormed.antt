@@ -17,9 +17,9 @@ use Rattle.fsl_core.specs.declared.assertion.Inst.{Inst}
 use Rattle.fsl_core.specs.declared.expr.Expr.{Expr}
 use Rattle.fsl_core.specs.declared.mode.Mode.{Mode}
 use Rattle.fsl_core.specs.declared.mode.Mode.TheVariants.{Na, Rlx, Acq, Rel, AcqRel}
-use Rattle.fsl_core.specs.declared.program.Inv.{Inv}
-use Rattle.fsl_core.specs.declared.program.Proc.{Proc}
-use Rattle.fsl_core.specs.declared.program.Program.{Program}
+use Rattle.fsl_core.specs.declared.declaration.Inv.{Inv}
+use Rattle.fsl_core.specs.declared.declaration.Proc.{Proc}
+use Rattle.fsl_core.specs.Programs.{Program}
 use Rattle.fsl_core.specs.Straight.{is_emp}
 
 -- ---- uses of invariants and procedures
@@ -28,8 +28,8 @@ abbrev pub inv_takes : List Expr → Option Inv → Bool
 inv_takes args None = false
 inv_takes args (Some inv) = inv.params == length args
 
-abbrev pub inst_fits : Program → Inst → Bool
-inst_fits p inst = inv_takes inst.args (slice_get p.invs inst.inv)
+abbrev pub inst_fits : List Inv → Inst → Bool
+inst_fits invs inst = inv_takes inst.args (slice_get invs inst.inv)
 
 abbrev pub inv_has_part : ℕ → Option Inv → Bool
 inv_has_part part None = false
@@ -47,18 +47,18 @@ call_fits p proc args = proc_takes args (slice_get p.procs proc)
 abbrev pub Test : Type 0
 Test = Bool → Bool
 
-abbrev pub asrt_step : Program → Asrt-F Test → Test
-asrt_step p (Asrt-F.Rel at inst) modal = inst_fits p inst
-asrt_step p (Asrt-F.Acq at inst part out) modal = inst_fits p inst && inv_has_part part (slice_get p.invs inst.inv)
-asrt_step p (Asrt-F.RmwAcq at inst) modal = inst_fits p inst
-asrt_step p (Asrt-F.Choice cond a b) modal = a modal && b modal
-asrt_step p (Asrt-F.Up a) modal = modal && a false
-asrt_step p (Asrt-F.Down a) modal = modal && a false
-asrt_step p (Asrt-F.Both parts) modal = list_all (λ part. part modal) parts
-asrt_step p _ modal = true
+abbrev pub asrt_step : List Inv → Asrt-F Test → Test
+asrt_step invs (Asrt-F.Rel at inst) modal = inst_fits invs inst
+asrt_step invs (Asrt-F.Acq at inst part out) modal = inst_fits invs inst && inv_has_part part (slice_get invs inst.inv)
+asrt_step invs (Asrt-F.RmwAcq at inst) modal = inst_fits invs inst
+asrt_step invs (Asrt-F.Choice cond a b) modal = a modal && b modal
+asrt_step invs (Asrt-F.Up a) modal = modal && a false
+asrt_step invs (Asrt-F.Down a) modal = modal && a false
+asrt_step invs (Asrt-F.Both parts) modal = list_all (λ part. part modal) parts
+asrt_step invs _ modal = true
 
-abbrev pub asrt_fits : Program → Asrt → Test
-asrt_fits p = fold-Asrt Test (asrt_step p)
+abbrev pub asrt_fits : List Inv → Asrt → Test
+asrt_fits invs = fold-Asrt Test (asrt_step invs)
 
 -- ---- statements
 
@@ -89,16 +89,16 @@ is_fence_mode Rel = true
 is_fence_mode AcqRel = true
 is_fence_mode _ = false
 
-abbrev pub proc_is_plain : Program → Option Proc → Bool
-proc_is_plain p None = false
-proc_is_plain p (Some proc) = asrt_fits p proc.pre false && asrt_fits p proc.post false
+abbrev pub proc_is_plain : List Inv → Option Proc → Bool
+proc_is_plain invs None = false
+proc_is_plain invs (Some proc) = asrt_fits invs proc.pre false && asrt_fits invs proc.post false
 
 -- a call of a `par`, whose contract has no modality
 abbrev pub child_fits : Program → Called → Bool
-child_fits p call = call_fits p call.proc call.args && proc_is_plain p (slice_get p.procs call.proc)
+child_fits p call = call_fits p call.proc call.args && proc_is_plain p.invs (slice_get p.procs call.proc)
 
 abbrev pub act_step : Program → Act-F Bool Bool → Bool
-act_step p (Act-F.AllocAt slot rmw inst) = inst_fits p inst
+act_step p (Act-F.AllocAt slot rmw inst) = inst_fits p.invs inst
 act_step p (Act-F.Load slot mode at) = is_load_mode mode
 act_step p (Act-F.Store mode at e) = is_store_mode mode
 act_step p (Act-F.Cas slot mode fail at old new steps) = is_update_mode mode && is_failure_mode fail
@@ -106,9 +106,9 @@ act_step p (Act-F.Add slot mode at e steps) = is_update_mode mode
 act_step p (Act-F.Swap slot mode at e steps) = is_update_mode mode
 act_step p (Act-F.Call slot proc args) = call_fits p proc args
 act_step p (Act-F.Par calls) = list_all (child_fits p) calls
-act_step p (Act-F.Fence mode asrt) = is_fence_mode mode && asrt_fits p asrt false
+act_step p (Act-F.Fence mode asrt) = is_fence_mode mode && asrt_fits p.invs asrt false
 act_step p (Act-F.If cond a b) = list_all (λ stmt. stmt) a && list_all (λ stmt. stmt) b
-act_step p (Act-F.While cond inv body) = asrt_fits p inv true && list_all (λ stmt. stmt) body
+act_step p (Act-F.While cond inv body) = asrt_fits p.invs inv true && list_all (λ stmt. stmt) body
 act_step p _ = true
 
 abbrev pub act_fits : Program → Act → Bool
@@ -119,14 +119,14 @@ stmt_fits p stmt = act_fits p stmt.act
 
 -- ---- programs
 
-abbrev pub inv_fits : Program → Inv → Bool
-inv_fits p inv = list_all (λ part. asrt_fits p part false) inv.parts
+abbrev pub inv_fits : List Inv → Inv → Bool
+inv_fits invs inv = list_all (λ part. asrt_fits invs part false) inv.parts
 
 abbrev pub proc_fits : Program → Proc → Bool
-proc_fits p proc = asrt_fits p proc.pre true && (asrt_fits p proc.post true && list_all (stmt_fits p) proc.body)
+proc_fits p proc = asrt_fits p.invs proc.pre true && (asrt_fits p.invs proc.post true && list_all (stmt_fits p) proc.body)
 
 abbrev pub is_main : Proc → Bool
 is_main proc = bytes_eq proc.name (codes "main") && (proc.params == 0 && is_emp proc.pre)
 
 abbrev pub is_well_formed : Program → Bool
-is_well_formed p = list_all (inv_fits p) p.invs && (list_all (proc_fits p) p.procs && list_any is_main p.procs)
+is_well_formed p = list_all (inv_fits p.invs) p.invs && (list_all (proc_fits p) p.procs && list_any is_main p.procs)
