@@ -1,7 +1,7 @@
 -- What is made of an assertion without faults fits the invariants that it uses, and has a modality only where one may
 -- stand.
-use Rattle.std.proofs.Common.{◌≡◌, ℕ, ◌+◌, ◌<◌, ◌≤◌, Bool, true, false, true≢false, not, ◌&&◌, ◌||◌, List, [], ◌∷◌, Option, Some, None, map, length, min, slice_get, nat_lt, ◌==◌, refl, ap, sym, ◌∙◌, subst, subst₂, arith, ltb-false, lt-ltb, eqb→eq, eq-eqb}
-use Rattle.std.proofs.lemmas.Bool.{and_from, eqb-true, not-false, not-true, or_left, or_right}
+use Rattle.std.proofs.Common.{◌≡◌, ℕ, ◌+◌, ◌<◌, ◌≤◌, Bool, true, false, true≢false, not, ◌&&◌, ◌||◌, List, [], ◌∷◌, Option, Some, None, map, length, min, slice_get, nat_lt, ◌==◌, refl, ap, sym, ◌∙◌, subst, subst₂, arith, ltb-false, lt-ltb, eq-eqb}
+use Rattle.std.proofs.lemmas.Bool.{and_from, eqb-true, not-false, or_left, or_right}
 use Rattle.std.proofs.lemmas.List.{length-map}
 use Rattle.std.proofs.lemmas.List.Folds.{list_all-map}
 use Rattle.std.specs.List.{list_all, list_any}
@@ -41,10 +41,10 @@ use Rattle.fsl_types.specs.declared.occurrence.Occurrence.TheVariants as occurre
 use Rattle.fsl_types.specs.declared.variable.Signature.{Signature}
 use Rattle.fsl_types.specs.declared.walk.Walk.{Walk}
 use Rattle.fsl_types.specs.Assertions.{Reads, apart, assertion, assertion_step, atom, atom_step, both_of, choice, clause, conjunct, conjunct_step, each, has_modality, is_modal_assertion, is_modal_atom, is_modal_conjunct, judged_acquire, judged_permission, judged_share, last_part_of, modal_assertion_step, modal_conjunct_step, modal_step, modality, part_number, pattern, relation, sight, tokens, unmodal}
-use Rattle.fsl_types.specs.Expressions.{Judged, Sight, arguments_of, fits, instance_of, judged_number, judged_use, number_of, numbered_arguments, signature_at}
+use Rattle.fsl_types.specs.Expressions.{Sight, arguments_of, fits, instance_of, judged_number, judged_use, number_of, numbered_arguments, signature_at}
 use Rattle.fsl_types.specs.Given.{Given}
 use Rattle.fsl_types.specs.Names.{Names, Signatures, found, text_at}
-use Rattle.fsl_types.specs.Walks.{Made, noted}
+use Rattle.fsl_types.specs.Walks.{noted}
 use Rattle.fsl_types.proofs.Growing.{Grows, Keeps, condition_grows, excluded_grows, noted_grows, noted_keeps, number_grows, use_grows, use_keeps}
 
 -- ---- invariants by name

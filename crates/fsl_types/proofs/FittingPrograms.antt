@@ -1,5 +1,5 @@
 -- The program of a tree without faults is well formed.
-use Rattle.std.proofs.Common.{◌≡◌, ℕ, zero, suc, Bool, true, false, true≢false, not, ◌&&◌, ◌||◌, ◌==◌, IsTrue, List, [], ◌∷◌, ◌++◌, codes, slice_get, nat_lt, Option, Some, None, refl, ap, sym, ◌∙◌, arith}
+use Rattle.std.proofs.Common.{◌≡◌, ℕ, zero, suc, Bool, true, false, true≢false, IsTrue, List, [], ◌∷◌, ◌++◌, codes, slice_get, nat_lt, Option, Some, None, refl, ap, sym, ◌∙◌, arith}
 use Rattle.std.proofs.lemmas.Bool.{and_from, and_parts, ltb-true, not-false, or_left, or_right}
 use Rattle.std.proofs.lemmas.List.Folds.{list_all-append}
 use Rattle.std.proofs.lemmas.Slice.Eq.{bytes_eq-Decides}
@@ -7,14 +7,10 @@ use Rattle.std.proofs.lemmas.Str.{IsUtf8-from_ascii, is_utf8-from_IsUtf8}
 use Rattle.std.specs.List.{list_all, list_any}
 use Rattle.std.specs.Str.{IsAscii, bytes_eq, is_utf8}
 use Rattle.fsl_core.specs.declared.assertion.Asrt.{Asrt}
-use Rattle.fsl_core.specs.declared.program.Inv.{Inv}
-use Rattle.fsl_core.specs.declared.program.Proc.{Proc}
 use Rattle.fsl_core.specs.declared.program.Program.{Program}
-use Rattle.fsl_core.specs.Straight.{is_emp}
-use Rattle.fsl_core.specs.WellFormed.{asrt_fits, inv_fits, is_main, is_well_formed, proc_fits, stmt_fits}
+use Rattle.fsl_core.specs.WellFormed.{asrt_fits, inv_fits, is_main, is_well_formed, proc_fits}
 use Rattle.fsl_tree.specs.declared.declaration.Declaration.{Declaration}
 use Rattle.fsl_tree.specs.declared.declaration.Declaration.TheVariants as declarations
-use Rattle.fsl_tree.specs.declared.declaration.Invariant.{Invariant}
 use Rattle.fsl_tree.specs.declared.declaration.Part.{Part}
 use Rattle.fsl_tree.specs.declared.declaration.Procedure.{Procedure}
 use Rattle.fsl_tree.specs.declared.file.File.{File}
@@ -25,12 +21,12 @@ use Rattle.fsl_types.specs.declared.variable.Signature.{Signature}
 use Rattle.fsl_types.specs.declared.walk.Walk.{Walk}
 use Rattle.fsl_types.specs.Given.{Given}
 use Rattle.fsl_types.specs.Names.{found}
-use Rattle.fsl_types.specs.Programs.{all_listed, declaration, declare_each, end_of, faults_of, given_by, has_main, in_ensures, in_invariant, in_requires, invariant, invariants_of, is_bare, list_each, listed_procedure, nothing_listed, nothing_resolved, parts, procedure, program_of, resolved}
+use Rattle.fsl_types.specs.Programs.{all_listed, declaration, declare_each, end_of, faults_of, given_by, has_main, in_ensures, in_invariant, in_requires, invariant, invariants_of, is_bare, listed_procedure, nothing_listed, nothing_resolved, parts, procedure, program_of, resolved}
 use Rattle.fsl_types.specs.Walks.{one_more}
 use Rattle.fsl_types.proofs.FittingAssertions.{HasInvariants, assertion_fits, clause_fits}
 use Rattle.fsl_types.proofs.FittingStatements.{HasProcedures, IsProcedure, a_block_fits}
 use Rattle.fsl_types.proofs.Growing.{noted_grows, noted_keeps}
-use Rattle.fsl_types.proofs.GrowingDeclarations.{contract_known, declare_each_grows, list_each_grows, listed_procedure_grows, parts_grow, pre_known, value_known}
+use Rattle.fsl_types.proofs.GrowingDeclarations.{contract_known, declare_each_grows, list_each_grows, listed_procedure_grows, parts_grow, pre_known}
 use Rattle.fsl_types.proofs.NamedDeclarations.{invariants_stand, procedures_stand}
 
 -- ---- invariants and procedures
@@ -133,3 +129,12 @@ resolved_fits bytes file sound =
     let keeps = noted_keeps (occurrence.End (end_of bytes) (has_main bytes file)) (resolved bytes file).faults sound in
     let main : has_main bytes file ≡ true = not-false (has_main bytes file) keeps.main in
     and_from _ _ fit.invs (and_from _ _ fit.procs (bare_main p (found (codes "main") given.procedures) (λ s is. procs (codes "main") s is) main))
+
+-- the same of what was made with all faults
+pub never_refused : (bytes : List ℕ) (file : File) (made : Resolved) → made ≡ record (resolved bytes file) { faults = faults_of bytes file } → made.faults ≡ []
+    → is_well_formed (record { invs = made.invs; procs = made.procs }) ≡ false → ⊥
+never_refused bytes file made is none refused =
+    let sound : faults_of bytes file ≡ [] = sym (ap (λ (r : Resolved). r.faults) is) ∙ none in
+    let same : is_well_formed (record { invs = made.invs; procs = made.procs }) ≡ is_well_formed (program_of bytes file) =
+    ap (λ (r : Resolved). is_well_formed (record { invs = r.invs; procs = r.procs })) is in
+    true≢false (sym (same ∙ resolved_fits bytes file sound) ∙ refused)

@@ -1,6 +1,6 @@
 -- What is made of a statement without faults fits the invariants and procedures that it uses, and its modes are those
 -- of its accesses.
-use Rattle.std.proofs.Common.{◌≡◌, ℕ, Bool, true, false, true≢false, not, ◌&&◌, List, [], ◌∷◌, Option, Some, None, map, length, slice_get, ◌==◌, refl, ap, sym, ◌∙◌, subst}
+use Rattle.std.proofs.Common.{◌≡◌, ℕ, Bool, true, false, true≢false, ◌&&◌, List, [], ◌∷◌, Option, Some, None, map, length, slice_get, ◌==◌, refl, ap, sym, ◌∙◌, subst}
 use Rattle.std.proofs.lemmas.Bool.{and_from, and_parts, not-false}
 use Rattle.std.proofs.lemmas.List.{length-map}
 use Rattle.std.specs.List.{list_all}
@@ -29,7 +29,6 @@ use Rattle.fsl_tree.specs.declared.right_side.Mode.TheVariants as modes
 use Rattle.fsl_tree.specs.declared.right_side.RightSide.{RightSide}
 use Rattle.fsl_tree.specs.declared.right_side.RightSide.TheVariants as right_sides
 use Rattle.fsl_tree.specs.declared.right_side.Step.{Step}
-use Rattle.fsl_tree.specs.declared.right_side.StepLine.{StepLine}
 use Rattle.fsl_tree.specs.declared.right_side.UpdateWord.{UpdateWord}
 use Rattle.fsl_tree.specs.declared.right_side.UpdateWord.TheVariants as update_words
 use Rattle.fsl_tree.specs.declared.right_side.With.{With}
@@ -50,14 +49,12 @@ use Rattle.fsl_types.specs.declared.occurrence.Access.TheVariants as accesses
 use Rattle.fsl_types.specs.declared.occurrence.Occurrence.TheVariants as occurrence
 use Rattle.fsl_types.specs.declared.variable.Signature.{Signature}
 use Rattle.fsl_types.specs.declared.walk.Walk.{Walk}
-use Rattle.fsl_types.specs.Assertions.{apart, assertion, clause, has_modality, is_modal_assertion}
-use Rattle.fsl_types.specs.Expressions.{Judged, Sight, arguments_of, expression_of, fits, in_turn, judged_number, judged_use, number_of, numbered_arguments, signature_at}
+use Rattle.fsl_types.specs.Expressions.{Sight, arguments_of, fits, in_turn, judged_use, number_of, numbered_arguments, signature_at}
 use Rattle.fsl_types.specs.Faults.{has_mode}
 use Rattle.fsl_types.specs.Given.{Given}
 use Rattle.fsl_types.specs.Names.{Names, found, text_at}
-use Rattle.fsl_types.specs.Statements.{Inside, Runs, allocation_of, block, block_step, called, fence, in_fence, in_loop_invariant, is_modal, judged_allocation, judged_call, judged_mode, judged_parallel, judged_return, judged_right_side, judged_step, judged_step_line, judged_steps, mode_of, otherwise, otherwise_step, release_mode, right_side_of, run_each, run_otherwise, seen, statement, statement_step, updated}
-use Rattle.fsl_types.specs.Walks.{noted}
-use Rattle.fsl_types.proofs.FittingAssertions.{Fitting, HasInvariants, apart_fits, assertion_fits, clause_fits, equal_numbers, instance_fits, layer_fits}
+use Rattle.fsl_types.specs.Statements.{Inside, Runs, allocation_of, block, block_step, called, fence, in_fence, in_loop_invariant, is_modal, judged_allocation, judged_call, judged_mode, judged_return, judged_right_side, judged_step, judged_step_line, judged_steps, mode_of, otherwise, otherwise_step, release_mode, right_side_of, run_each, seen, statement, statement_step, updated}
+use Rattle.fsl_types.proofs.FittingAssertions.{HasInvariants, assertion_fits, clause_fits, equal_numbers, instance_fits, layer_fits}
 use Rattle.fsl_types.proofs.Growing.{Grows, Keeps, condition_grows, each_grows, noted_grows, noted_keeps, number_grows, use_grows, use_keeps}
 
 -- ---- procedures by name

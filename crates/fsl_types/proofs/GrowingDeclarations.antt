@@ -1,6 +1,6 @@
 -- The faults of declarations and of lists of names only grow, and without faults there are as many slots and parts as
 -- were written.
-use Rattle.std.proofs.Common.{◌≡◌, ℕ, suc, ◌+◌, ◌<◌, Bool, false, List, [], ◌∷◌, map, length, nat_le, is_some, if◌then◌else◌, Option, refl, ap, ◌∙◌, arith, leb-false, lt-ltb}
+use Rattle.std.proofs.Common.{◌≡◌, ℕ, suc, ◌+◌, ◌<◌, false, List, [], ◌∷◌, length, nat_le, is_some, Option, refl, ap, arith, leb-false, lt-ltb}
 use Rattle.std.proofs.lemmas.Bool.{cond-true}
 use Rattle.std.proofs.lemmas.List.{length-map}
 use Rattle.fsl_core.specs.declared.program.Program.{Program}
@@ -21,7 +21,7 @@ use Rattle.fsl_types.specs.Assertions.{clause}
 use Rattle.fsl_types.specs.Given.{Given}
 use Rattle.fsl_types.specs.Names.{found, text_at}
 use Rattle.fsl_types.specs.Programs.{banks_among, contract, declaration, declare_each, in_ensures, in_invariant, in_requires, invariant, is_bank, list_each, listed_invariant, listed_procedure, parameters_of, parts, procedure, with_parameter, with_parameters}
-use Rattle.fsl_types.specs.Walks.{Made, declared, fresh, one_more}
+use Rattle.fsl_types.specs.Walks.{declared, fresh, one_more}
 use Rattle.fsl_types.proofs.FittingAssertions.{assertion_fits, clause_fits}
 use Rattle.fsl_types.proofs.FittingStatements.{a_block_fits}
 use Rattle.fsl_types.proofs.Growing.{noted_grows, noted_keeps}

@@ -1,5 +1,5 @@
 -- Without faults, the invariant or the procedure of a name stands where its number says, and is as its signature says.
-use Rattle.std.proofs.Common.{◌≡◌, ℕ, zero, suc, ◌+◌, Bool, true, false, true≢false, not, ◌&&◌, ◌||◌, ◌==◌, ◌⊎◌, inl, inr, ⊎_elim, cond, List, [], ◌∷◌, ◌++◌, length, length-append, slice_get, Option, Some, None, is_some, is_none, if◌then◌else◌, refl, ap, sym, ◌∙◌, subst, arith, eq-eqb}
+use Rattle.std.proofs.Common.{◌≡◌, ℕ, zero, suc, ◌+◌, Bool, true, false, true≢false, ◌&&◌, ◌||◌, ◌==◌, ◌⊎◌, inl, inr, ⊎_elim, cond, List, [], ◌∷◌, ◌++◌, length, length-append, slice_get, Option, Some, None, is_some, is_none, if◌then◌else◌, refl, ap, sym, ◌∙◌, subst, arith, eq-eqb}
 use Rattle.std.proofs.lemmas.Bool.{and_from, and_parts, or_parts}
 use Rattle.std.proofs.lemmas.Slice.Eq.{bytes_eq-Decides}
 use Rattle.std.specs.Map.{lookup}
@@ -27,7 +27,7 @@ use Rattle.fsl_types.specs.declared.walk.Walk.{Walk}
 use Rattle.fsl_types.specs.Assertions.{clause, has_modality}
 use Rattle.fsl_types.specs.Given.{Given}
 use Rattle.fsl_types.specs.Names.{Signatures, found, text_at, with_name}
-use Rattle.fsl_types.specs.Programs.{banks_among, declaration, declare_each, in_ensures, in_requires, invariant, invariant_signature, list_each, listed_invariant, listed_procedure, name_at, procedure, procedure_signature}
+use Rattle.fsl_types.specs.Programs.{banks_among, declaration, declare_each, in_ensures, in_requires, invariant, invariant_signature, list_each, listed_invariant, listed_procedure, procedure, procedure_signature}
 use Rattle.fsl_types.specs.Walks.{declared}
 use Rattle.fsl_types.proofs.FittingAssertions.{HasInvariants, IsInvariant, clause_fits}
 use Rattle.fsl_types.proofs.FittingStatements.{IsProcedure}
