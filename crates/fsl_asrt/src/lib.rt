@@ -18,8 +18,10 @@ mod take;
 mod terms;
 mod walk;
 
+pub use asked::read;
 pub use branch::{Bound, Branch, Decided};
 pub use built::is_built;
+pub use cells::{FoundCell, cell_at};
 pub use deciding::{assume_cond, decide, decide_cond, demand_cond};
-pub use terms::term;
+pub use terms::{constant, term};
 pub use walk::{consume, produce};

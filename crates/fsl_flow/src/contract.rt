@@ -28,12 +28,47 @@ pub fn failing(alloc: Global, kind: Kind) -> Result<List<Branch>, AllocError>
     Ok(out)
 }
 
+/// Branches whose environments are dropped.
+fn without_env(alloc: Global, bound: List<Bound>) -> Result<List<Branch>, AllocError>
+    ensures { IfOk result (λ bs. branches bs ≡ followed (bounds bound) (λ _. done)) }
+{
+    let mut out = List::new(alloc);
+    for branch in bound.into_vec() {
+        match branch {
+            Bound::Goes { state, env: _env } => out.push(Branch::Goes { state })?,
+            Bound::Fails { kind } => out.push(Branch::Fails { kind })?,
+        }
+    }
+    Ok(out)
+}
+
+/// Branches whose environments are those of the states from now on.
+fn with_env(alloc: Global, bound: List<Bound>) -> Result<List<Branch>, AllocError>
+    ensures { IfOk result (λ bs. branches bs ≡ followed (bounds bound) (λ e. change (λ s. record s { env = e }))) }
+{
+    let mut out = List::new(alloc);
+    for branch in bound.into_vec() {
+        match branch {
+            Bound::Goes { mut state, env } => {
+                state.set_env(env);
+                out.push(Branch::Goes { state })?;
+            }
+            Bound::Fails { kind } => out.push(Branch::Fails { kind })?,
+        }
+    }
+    Ok(out)
+}
+
 /// The procedure ends with a result: its `ensures` is consumed, and what is left is dropped.
+#[tactic(auto, using(crate::proofs::Contracting::finished))]
 pub fn finish(alloc: Global, state: State, post: &Asrt, t: Lin) -> Result<List<Branch>, AllocError>
     requires { IsTrue (is_built post.now) }
     ensures { IfOk result (λ bs. branches bs ≡ calls.finish (asrt_of post.now) t state) }
 {
-    Err(AllocError)
+    let mut env = state.env().fork(alloc)?;
+    env.push(alloc, t)?;
+    let bound = consume(alloc, state, post, env, Rung::Plain, Mood::Post)?;
+    without_env(alloc, bound)
 }
 
 /// The closing brace: the procedure ends with the result 0.
@@ -41,10 +76,12 @@ pub fn close(alloc: Global, state: State, post: &Asrt) -> Result<List<Branch>, A
     requires { IsTrue (is_built post.now) }
     ensures { IfOk result (λ bs. branches bs ≡ calls.finish (asrt_of post.now) nought state) }
 {
-    Err(AllocError)
+    let t = constant(alloc, 0)?;
+    finish(alloc, state, post, t)
 }
 
 /// A `return`: the procedure ends with the result of an expression.
+#[tactic(auto, using(crate::proofs::Ending::returned, crate::proofs::Ending::not_returned))]
 pub fn return_with(
     alloc: Global,
     state: State,
@@ -54,21 +91,68 @@ pub fn return_with(
     requires { IsTrue (is_built post.now) }
     ensures { IfOk result (λ bs. branches bs ≡ return (asrt_of post.now) (expr_of e.now) state) }
 {
-    Err(AllocError)
+    match read(alloc, &state, e, state.env())? {
+        Some(t) => finish(alloc, state, post, t),
+        None => failing(alloc, Kind::Term),
+    }
 }
 
 /// The invariant of a loop is given: it is consumed.
+#[tactic(auto, using(crate::proofs::Contracting::inv_given))]
 pub fn give_inv(alloc: Global, state: State, inv: &Asrt) -> Result<List<Branch>, AllocError>
     requires { IsTrue (is_built inv.now) }
     ensures { IfOk result (λ bs. branches bs ≡ give_inv (asrt_of inv.now) state) }
 {
-    Err(AllocError)
+    let env = state.env().fork(alloc)?;
+    let bound = consume(alloc, state, inv, env, Rung::Plain, Mood::Loop)?;
+    without_env(alloc, bound)
+}
+
+/// New symbols for so many parameters, behind one another.
+#[tactic(auto, using(crate::proofs::Following::symbols_goes, crate::proofs::Following::symbols_fails))]
+fn new_symbols(alloc: Global, state: State, params: u32) -> Result<Bound, AllocError>
+    ensures { IfOk result (λ bound. bound_of bound ∷ [] ≡ new_symbols params state) }
+{
+    let mut state = state;
+    let mut env = Env::new(alloc);
+    for _param in 0..params {
+        state = match state.new_symbol(alloc)? {
+            Made::Goes { state, symbol } => {
+                env.push(alloc, symbol)?;
+                state
+            }
+            Made::Fails { kind } => return Ok(Bound::Fails { kind }),
+        };
+    }
+    Ok(Bound::Goes { state, env })
+}
+
+/// An environment with a zero for each slot that is not set yet.
+#[tactic(auto, using(crate::proofs::Padding::padded_more, crate::proofs::Padding::padded_full))]
+fn padded(alloc: Global, env: Env, slots: u32) -> Result<Env, AllocError>
+    ensures { IfOk result (λ all. all ≡ padded slots env) }
+{
+    let mut all = env;
+    'pad: while all.len() < slots as usize {
+        let zero = constant(alloc, 0)?;
+        all.push(alloc, zero)?;
+    }
+    Ok(all)
 }
 
 /// A procedure starts with new symbols for its parameters, and what its `requires` says.
+#[tactic(auto, using(crate::proofs::Contracting::entered, crate::proofs::Contracting::not_entered))]
 pub fn enter(alloc: Global, proc: &Proc) -> Result<List<Branch>, AllocError>
     requires { IsTrue (is_built proc.now.pre) }
     ensures { IfOk result (λ bs. branches bs ≡ enter (contract_of asrt_of proc.now) start) }
 {
-    Err(AllocError)
+    let state = State::new(alloc, Env::new(alloc))?;
+    match new_symbols(alloc, state, proc.params)? {
+        Bound::Goes { state, env } => {
+            let env = padded(alloc, env, proc.slots)?;
+            let bound = produce(alloc, state, &proc.pre, env, Rung::Plain)?;
+            with_env(alloc, bound)
+        }
+        Bound::Fails { kind } => failing(alloc, kind),
+    }
 }

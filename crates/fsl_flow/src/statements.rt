@@ -28,10 +28,61 @@ pub fn is_simple(act: &Act) -> bool
     }
 }
 
+/// A variable is set to the term of an expression.
+#[tactic(auto, using(crate::proofs::Ending::set_some, crate::proofs::Ending::set_none))]
+fn set_to(alloc: Global, state: State, slot: u32, e: &Expr) -> Result<Went, AllocError>
+    ensures { IfOk result (λ went. branches went ≡ set_to slot (expr_of e.now) state) }
+{
+    let mut state = state;
+    match read(alloc, &state, e, state.env())? {
+        Some(t) => {
+            state.set(alloc, slot, t)?;
+            Ok(Went::Goes { state })
+        }
+        None => Ok(Went::Fails { kind: Kind::Term }),
+    }
+}
+
+/// A condition that has to be proved.
+#[tactic(auto, using(crate::proofs::Contracting::asserted))]
+fn assert(alloc: Global, state: State, cond: &Cond) -> Result<Went, AllocError>
+    ensures { IfOk result (λ went. branches went ≡ assert (cond_of expr_of cond.now) state) }
+{
+    let env = state.env().fork(alloc)?;
+    demand_cond(alloc, state, Kind::Assert, cond, &env)
+}
+
+/// A number is printed, which has to have a term.
+#[tactic(auto, using(crate::proofs::Ending::print_some, crate::proofs::Ending::print_none))]
+fn print(alloc: Global, state: State, e: &Expr) -> Result<Went, AllocError>
+    ensures { IfOk result (λ went. branches went ≡ print (expr_of e.now) state) }
+{
+    match read(alloc, &state, e, state.env())? {
+        Some(_t) => Ok(Went::Goes { state }),
+        None => Ok(Went::Fails { kind: Kind::Term }),
+    }
+}
+
 /// Goes on by the rule of a simple act.
 pub fn step(alloc: Global, state: State, act: &Act) -> Result<Went, AllocError>
     requires { IsTrue (is_simple act.now) }
     ensures { IfOk result (λ went. branches went ≡ action_of act.now state) }
 {
-    Err(AllocError)
+    match act {
+        Act::Set { slot, e } => set_to(alloc, state, *slot, e),
+        Act::AllocNa { slot } => alloc_na(alloc, state, *slot),
+        Act::Load {
+            slot,
+            mode: Mode::Na,
+            at,
+        } => load_na(alloc, state, *slot, at),
+        Act::Store {
+            mode: Mode::Na,
+            at,
+            e,
+        } => store_na(alloc, state, at, e),
+        Act::Assert { cond } => assert(alloc, state, cond),
+        Act::Print { e } => print(alloc, state, e),
+        _ => unreachable!(),
+    }
 }
