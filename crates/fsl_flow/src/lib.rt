@@ -8,8 +8,8 @@ mod covered;
 mod job;
 mod known;
 mod looping;
-mod outcomes;
-pub mod paths;
+pub mod outcomes;
+mod paths;
 mod rest;
 mod rules;
 mod sets;
@@ -20,4 +20,4 @@ mod term;
 #[cfg(test)]
 mod tests;
 
-pub use outcomes::{built, outcome};
+pub use paths::{built, outcome};

@@ -348,7 +348,7 @@ fn turn(
     ensures exact { IfOk result (λ o. o ≡ outcome_from job.now.number count (turn_ends job.now round.now up.now state)) }
     ensures within { IfOk result IsWithin }
 {
-    let inside = at_body(alloc, &state, round)?;
+    let inside = at_body(alloc, state.fork(alloc)?, round)?;
     let back = Rest::Back {
         at: round.at,
         inv: round.inv,
