@@ -1,5 +1,5 @@
 -- Parts of programs whose paths are followed so far.
-use Rattle.std.proofs.Common.{arith, ◌≡◌, ◌<◌, ℕ, zero, suc, Bool, true, List, [], ◌∷◌, length, get_or, sym, ◌∙◌}
+use Rattle.std.proofs.Common.{arith, ◌≡◌, ◌<◌, ℕ, zero, suc, Bool, true, ◌&&◌, List, [], ◌∷◌, length, get_or, sym, ◌∙◌}
 use Rattle.std.specs.List.{list_all}
 use Rattle.std.proofs.lemmas.Bool.{and_parts}
 use Rattle.fsl_core.specs.declared.act.Act.TheFolds.{fold_out-Stmt}
@@ -7,6 +7,7 @@ use Rattle.fsl_core.specs.declared.act.Stmt.{Stmt}
 use Rattle.fsl_core.specs.declared.program.Proc.{Proc}
 use Rattle.fsl_core.specs.declared.program.Program.{Program}
 use Rattle.fsl_core.specs.Straight.{is_empty}
+use Rattle.fsl_asrt.specs.Built as assertions
 use Rattle.fsl_flow.specs.Built.{built_step, is_built_act, is_built_stmt, are_built, is_built_proc, is_built}
 
 all_at : {X : Type 0} (f : X → Bool) (xs : List X) (i : ℕ) (x : X) → list_all f xs ≡ true → i < length xs → x ≡ get_or xs i x → f x ≡ true
@@ -22,3 +23,6 @@ head_built stmt stmts h = sym (fold_out-Stmt Bool Bool built_step (λ s. s.act) 
 
 pub tail_built : (stmt : Stmt) (stmts : List Stmt) → are_built (stmt ∷ stmts) ≡ true → are_built stmts ≡ true
 tail_built stmt stmts h = (and_parts (is_built_stmt stmt) (are_built stmts) h).1
+
+pub body_built : (q : Proc) → is_built_proc q ≡ true → are_built q.body ≡ true
+body_built q h = (and_parts (assertions.is_built q.pre && assertions.is_built q.post) (are_built q.body) h).1

@@ -1,5 +1,5 @@
 -- What the walk comes to, one step at a time.
-use Rattle.std.proofs.Common.{◌≡◌, ℕ, ◌+◌, Bool, true, false, ◌&&◌, List, [], ◌∷◌, ◌++◌, map, refl, sym, ap, ◌∙◌}
+use Rattle.std.proofs.Common.{◌≡◌, ℕ, ◌+◌, Bool, true, false, ◌&&◌, List, [], ◌∷◌, map, refl, sym, ap, ◌∙◌}
 use Rattle.std.specs.Borrow.{Bor}
 use Rattle.std.proofs.Common.{Result, Ok, Err, IfOk}
 use Rattle.std.proofs.lemmas.Bool.{and_parts}
@@ -25,6 +25,7 @@ use Rattle.fsl_core.specs.logic.Assertions.{asrt_of}
 use Rattle.fsl_core.specs.logic.Calls.{enter, finish}
 use Rattle.fsl_core.specs.logic.Locations.{contract_of}
 use Rattle.fsl_core.specs.logic.Slots.{past}
+use Rattle.fsl_core.specs.logic.Verdicts.{outcome_of}
 use Rattle.fsl_core.specs.logic.Paths.{Ends, each, block, return, give_inv, round, path_ends, body_ends, behind_ends, closing, nowhere, start, ends_of}
 use Rattle.fsl_asrt.specs.Built as assertions
 use Rattle.fsl_flow.specs.declared.job.Job.{Job}
@@ -341,6 +342,13 @@ left_is job stmts declared s up whole c (Ok o) e f h =
     h ∙ ap (outcome_from job.number c) (sym (block_empty job declared s up)
     ∙ ap (λ (l : List Stmt). block_ends job l declared s up) (sym e) ∙ f)
 left_is job stmts declared s up whole c (Err d) e f h = tt
+
+pub judged_is : (job : Job) (p : Bor (List Stmt)) (q : Bor Rest) (bs : Branches (Unit {0})) {E : Type 0} (r : Result Outcome E)
+    → p.now ≡ job.proc.now.body → q.now ≡ rest.Closing job.proc.now.last → bs ≡ enter (contract_of asrt_of job.proc.now) start
+    → IfOk r (λ o. o ≡ outcome_from job.number 0 (each_ends job nowhere bs (rest.Then p 0 q)))
+    → IfOk r (λ o. o ≡ outcome_of job.program.now job.number job.proc.now)
+judged_is job p q bs (Ok o) e f h is = is ∙ ap (outcome_from job.number 0) (judged job p q bs e f h)
+judged_is job p q bs (Err d) e f h is = tt
 
 pub while_is : (job : Job) (x : Round) (q : Bor Rest) (act : Act) (s : State) (bs : Branches (Unit {0})) (c : ℕ) {E : Type 0} (r : Result Outcome E)
     → act ≡ While x.cond.now x.inv.now x.body.now → bs ≡ give_inv (asrt_of x.inv.now) s

@@ -1,5 +1,5 @@
 -- Statements that have one rule and neither branch nor end the path, and their rules.
-use Rattle.std.specs.Prelude.{Bool, true, false, [], List}
+use Rattle.std.specs.Prelude.{Bool, true, false, []}
 use Rattle.fsl_core.specs.declared.act.Act.{Act}
 use Rattle.fsl_core.specs.declared.act.Act.TheOpen.{Act-F}
 use Rattle.fsl_core.specs.declared.act.Act.TheFolds.{fold-Act}

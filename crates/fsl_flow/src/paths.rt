@@ -47,7 +47,6 @@ pub fn outcome(alloc: Global, p: &Program, proc: u32) -> Result<Outcome, AllocEr
 }
 
 /// The outcome of a procedure.
-#[tactic(auto, using(crate::proofs::Walking::judged))]
 fn judge(alloc: Global, job: &Job<'_>) -> Result<Outcome, AllocError>
     requires { IsTrue (is_built_proc job.now.proc.now) }
     ensures { IfOk result (λ o. o ≡ outcome_of job.now.program.now job.now.number job.now.proc.now) }

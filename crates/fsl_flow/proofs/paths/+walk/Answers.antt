@@ -1,10 +1,7 @@
-use Rattle.std.proofs.Common.{rules, arith, ◌≡◌, ◌+◌, [], true, sym, ap, ◌∙◌, refl}
+use Rattle.std.proofs.Common.{arith, ◌≡◌, [], sym, ap, ◌∙◌, refl}
 use Rattle.std.proofs.lemmas.Grind.{common_steps}
 use Rattle.fsl_core.specs.declared.act.Act.TheVariants as acts
-use Rattle.fsl_core.specs.declared.verdict.Outcome.TheVariants.{Derived, Fails}
-use Rattle.fsl_core.specs.Verdicts.{outcome_from}
-use Rattle.fsl_flow.specs.declared.rest.Rest.TheVariants as rest
-use Rattle.fsl_flow.specs.Rests.{each_ends, act_weight, weight, rest_weight}
+use Rattle.fsl_flow.specs.Rests.{act_weight, weight}
 use Rattle.fsl_flow.proofs.Walking.{each_done, sides_done, if_built, while_built, if_weight, while_weight, loop_weight, then_weight, back_weight, loop_is_built, then_is_built, back_built, while_is, left_is, turn_is, turn_stops}
 use Rattle.fsl_flow.proofs.paths.+walk.Goals as goal
 

@@ -1,6 +1,6 @@
-use Rattle.std.proofs.Common.{◌≡◌, ◌++◌, ◌∙◌, ap, sym}
+use Rattle.std.proofs.Common.{◌≡◌, ◌∙◌, ap, sym}
 use Rattle.fsl_core.specs.logic.Slots.{past}
-use Rattle.fsl_flow.specs.Sets.{Slots, act_sets, stmts_set}
+use Rattle.fsl_flow.specs.Sets.{Slots, stmts_set}
 use Rattle.fsl_flow.proofs.Slots.{past_both, if_sets, past_on, past_end}
 use Rattle.fsl_flow.proofs.sets.+past.Goals as goal
 
