@@ -24,7 +24,7 @@ pub fn outcome(alloc: Global, p: &Program, proc: u32) -> Result<Outcome, AllocEr
     requires in_range { proc < length p.now.procs }
     ensures { IfOk result (λ o. option_map (outcome_of proc) (slice_get p.now.procs proc) ≡ Some o) }
 {
-    follow(alloc, proc, &p.procs.as_slice()[proc as usize])
+    follow(alloc, proc, &p.procs()[proc as usize])
 }
 
 /// Follows the statements of a procedure with the state in place.

@@ -23,7 +23,7 @@ impl<'a> Work for Procedures<'a> {
     ghost outcomes = { λ work. outcomes (ends_of work.program.now) 0 work.program.now.procs };
 
     fn units(&self) -> u32 {
-        self.program.procs.len() as u32
+        self.program.procs().len() as u32
     }
 
     fn outcome(&self, alloc: Global, unit: u32) -> Result<Outcome, AllocError> {

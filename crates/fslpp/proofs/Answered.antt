@@ -1,6 +1,6 @@
 -- What is known of an answer once it is composed, and of the words once they are read.
 use Rattle.std.proofs.Common.{◌≡◌, ℕ, List, Option, None, Some, Result, Ok, Err, IfOk, sym, subst, refl}
-use Rattle.fsl_core.specs.declared.program.Program.{Program}
+use Rattle.fsl_core.specs.Programs.{Program}
 use Rattle.fslpp.specs.declared.answer.Answer.{Answer}
 use Rattle.fslpp.specs.declared.command.Command.TheVariants.{Check, Run}
 use Rattle.fslpp.specs.declared.refused.Unread.{Unread}

@@ -13,8 +13,8 @@ use Rattle.fsl_core.specs.declared.assertion.Asrt.TheFolds.{fold_out-Asrt, map-A
 use Rattle.fsl_core.specs.declared.assertion.Asrt.TheOpen.{Asrt-F}
 use Rattle.fsl_core.specs.declared.assertion.Asrt.TheViews.{out-Asrt}
 use Rattle.fsl_core.specs.declared.mode.Mode.TheVariants.{Na}
-use Rattle.fsl_core.specs.declared.program.Proc.{Proc}
-use Rattle.fsl_core.specs.declared.program.Program.{Program}
+use Rattle.fsl_core.specs.declared.declaration.Proc.{Proc}
+use Rattle.fsl_core.specs.Programs.{Program}
 use Rattle.fsl_core.specs.Straight.{Test, straight_step, is_straight_act, emp_step, is_emp, is_straight_proc, is_one_straight, is_straight, is_empty}
 use Rattle.fsl_flow.specs.Built.{built_step, is_built_act, is_built_stmt, are_built, is_built_proc, is_built}
 
