@@ -7,10 +7,9 @@ use Rattle.fsl_core.specs.declared.mode.Rung.{Rung}
 use Rattle.fsl_core.specs.declared.verdict.Kind.{Kind}
 use Rattle.fsl_core.specs.declared.verdict.Kind.TheVariants as kind
 use Rattle.fsl_core.specs.logic.States.{State, goes, fails, Branches, Rule, Action, followed, ◌>>=◌, ◌>>◌, give, demand, demand_some}
-use Rattle.fsl_core.specs.logic.Terms.{fitting}
+use Rattle.fsl_core.specs.logic.Terms.{fitting, narrow}
 use Rattle.fsl_core.specs.logic.Deciding.{has_room, assume, assume_at_most, assume_equal}
 use Rattle.fsl_core.specs.logic.Joining.{assume_same}
-use Rattle.fsl_core.specs.Terms.{narrow}
 use Rattle.fsl_lin.specs.Combination.{Combination, plus, minus, constant, is_narrow}
 use Rattle.fsl_lin.specs.Facts.{absurd_facts}
 use Rattle.fsl_lin.specs.declared.fact.Fact.{Fact}

@@ -12,8 +12,7 @@ use Rattle.fsl_asrt.proofs.Laws.{followed_equal, followed_give, followed_twice}
 use Rattle.fsl_core.specs.declared.assertion.Asrt.{Asrt}
 use Rattle.fsl_core.specs.declared.mode.Rung.{Rung}
 use Rattle.fsl_core.specs.declared.verdict.Mood.{Mood}
-use Rattle.fsl_core.specs.States.{Env}
-use Rattle.fsl_core.specs.logic.States.{State, goes, Branches, Rule, followed}
+use Rattle.fsl_core.specs.logic.States.{Env, State, goes, Branches, Rule, followed}
 use Rattle.fsl_core.specs.logic.Deciding.{Condition, decided}
 use Rattle.fsl_core.specs.logic.Producing.{chosen, all_produced}
 use Rattle.fsl_core.specs.logic.Consuming.{all_consumed}

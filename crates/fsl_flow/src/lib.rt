@@ -2,22 +2,16 @@
 #![tactic(auto)]
 
 mod accesses;
-mod cell;
 mod contract;
 mod covered;
 mod job;
-mod known;
 mod looping;
-pub mod outcomes;
 mod paths;
 mod rest;
-mod rules;
 mod sets;
-mod state;
 mod statements;
-mod stop;
-mod term;
 #[cfg(test)]
 mod tests;
 
-pub use paths::{built, outcome};
+pub use covered::built;
+pub use paths::outcome;

@@ -2,8 +2,7 @@
 //! left, and the walk stops at the first failure and where there are too many paths.
 ghost use Rattle.std.specs.Prelude.{◌≡◌, ◌<◌, ◌≤◌, [], ◌∷◌, map, IfOk, IsTrue, Some, length, slice_get, false};
 ghost use Rattle.std.specs.Option.{option_map};
-ghost use Rattle.fsl_core.specs.Paths.{derived};
-ghost use Rattle.fsl_core.specs.Verdicts.{outcome_from};
+ghost use Rattle.fsl_core.specs.Verdicts.{derived, outcome_from};
 ghost use Rattle.fsl_core.specs.logic.Verdicts.{outcome_of};
 ghost use Rattle.fsl_asrt.specs.Branches.{branches, decided};
 ghost use Rattle.fsl_asrt.specs.Built as assertions;
@@ -12,7 +11,6 @@ ghost use Rattle.fsl_flow.specs.Rests.{ends_behind, block_ends, act_ends, each_e
 ghost use Rattle.fsl_flow.specs.Simple.{is_simple};
 
 use crate::contract::{close, enter, give_inv, return_with};
-pub use crate::covered::built;
 use crate::job::Job;
 use crate::looping::{at_body, at_round, decide};
 use crate::rest::{Rest, Round};
@@ -347,7 +345,7 @@ fn turn(
     ensures exact { IfOk result (λ o. o ≡ outcome_from job.now.number count (turn_ends job.now round.now up.now state)) }
     ensures within { IfOk result IsWithin }
 {
-    let inside = at_body(alloc, state.fork(alloc)?, round)?;
+    let inside = at_body(alloc, &state, round)?;
     let back = Rest::Back {
         at: round.at,
         inv: round.inv,
