@@ -1,7 +1,7 @@
 //! One procedure judged again and again, each time as a unit of its own; and units without work.
 ghost use Rattle.std.specs.Prelude.{◌≡◌, ◌≤◌, ◌<◌, Some, length, slice_get, option_map, replicate};
 ghost use Rattle.fsl_core.specs.declared.verdict.Outcome.TheVariants.{Derived};
-ghost use Rattle.fsl_core.specs.Verdicts.{outcome_of};
+ghost use Rattle.fsl_core.specs.logic.Verdicts.{outcome_of};
 ghost use Rattle.fsl_sound.specs.Covered.{IsCovered};
 
 use fsl_base::OpenGate;
@@ -19,7 +19,7 @@ struct Repeated<'a> {
     known: Outcome,
     ghost covered: { IsCovered program.now },
     ghost some: { 0 < length program.now.procs },
-    ghost known_so: { option_map (outcome_of 0) (slice_get program.now.procs 0) ≡ Some known },
+    ghost known_so: { option_map (outcome_of program.now 0) (slice_get program.now.procs 0) ≡ Some known },
 }
 
 impl<'a> Work for Repeated<'a> {

@@ -10,7 +10,6 @@ use Rattle.fsl_core.specs.logic.States.{State, goes, fails, Branches, Rule, foll
 use Rattle.fsl_core.specs.logic.Terms.{fitting}
 use Rattle.fsl_core.specs.logic.Deciding.{has_room, assume, assume_at_most}
 use Rattle.fsl_core.specs.logic.Joining.{assume_same}
-use Rattle.fsl_core.specs.Terms.{narrow}
 use Rattle.fsl_lin.specs.Combination.{Combination, plus, minus, constant, is_narrow}
 use Rattle.fsl_lin.specs.Facts.{absurd_facts}
 use Rattle.fsl_lin.specs.declared.fact.Fact.{Fact}

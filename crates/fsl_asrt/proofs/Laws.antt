@@ -6,8 +6,7 @@ use Rattle.fsl_asrt.specs.Sides.{side_of, sides_of}
 use Rattle.fsl_core.specs.declared.expr.CmpOp.{CmpOp}
 use Rattle.fsl_core.specs.declared.verdict.Kind.{Kind}
 use Rattle.fsl_core.specs.declared.verdict.Kind.TheVariants.{Term}
-use Rattle.fsl_core.specs.States.{Env}
-use Rattle.fsl_core.specs.logic.States.{State, goes, fails, Branches, Rule, followed, ◌>>=◌, give, done, demand, demand_some}
+use Rattle.fsl_core.specs.logic.States.{Env, State, goes, fails, Branches, Rule, followed, ◌>>=◌, give, done, demand, demand_some}
 use Rattle.fsl_core.specs.logic.Terms.{Expression}
 use Rattle.fsl_core.specs.logic.Deciding as deciding
 use Rattle.fsl_core.specs.logic.Deciding.{Condition, compares, sides, each_side, agrees, decide, decided, assume_cond, demand_cond, is_sure}

@@ -2,9 +2,8 @@
 use Rattle.std.proofs.Common.{◌≡◌, ℕ, suc, ◌-◌, List, [], ◌∷◌, length, get_or, slice_get, true, Option, Some, None, refl, sym, ap, subst, ◌∙◌, arith}
 use Rattle.std.proofs.lemmas.Option.{unwrap_or-slice_get}
 use Rattle.std.specs.Option.{unwrap_or}
-use Rattle.fsl_core.specs.States.{Env}
-use Rattle.fsl_core.specs.Terms.{last_or}
-use Rattle.fsl_core.specs.logic.Terms.{constant_of, number_of}
+use Rattle.fsl_core.specs.logic.States.{Env}
+use Rattle.fsl_core.specs.logic.Terms.{last_or, constant_of, number_of}
 use Rattle.fsl_lin.specs.Combination.{Combination}
 use Rattle.fsl_lin.specs.Facts.{rows}
 use Rattle.fsl_lin.specs.Numbers.{Numbers, part, is_constant}

@@ -10,8 +10,7 @@ use Rattle.fsl_core.specs.declared.chunk.Chunk.TheVariants as chunk
 use Rattle.fsl_core.specs.declared.mode.Rung.{Rung}
 use Rattle.fsl_core.specs.declared.verdict.Kind.{Kind}
 use Rattle.fsl_core.specs.declared.verdict.Kind.TheVariants as kind
-use Rattle.fsl_core.specs.States.{Env}
-use Rattle.fsl_core.specs.logic.States.{State, goes, fails, Branches, Rule, followed, ◌>>=◌, ◌>>◌, give, demand, demand_some}
+use Rattle.fsl_core.specs.logic.States.{Env, State, goes, fails, Branches, Rule, followed, ◌>>=◌, ◌>>◌, give, demand, demand_some}
 use Rattle.fsl_core.specs.logic.Terms.{fitting}
 use Rattle.fsl_core.specs.logic.Deciding.{proves_at_most, proves_equal, assume_at_most}
 use Rattle.fsl_core.specs.logic.Chunks.{Cell, Found, first, cell_at, enough_at}

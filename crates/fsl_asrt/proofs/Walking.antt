@@ -16,8 +16,7 @@ use Rattle.fsl_core.specs.declared.assertion.Asrt.TheVariants.{Choice, rolls-Cho
 use Rattle.fsl_core.specs.declared.expr.Cond.{Cond}
 use Rattle.fsl_core.specs.declared.mode.Rung.{Rung}
 use Rattle.fsl_core.specs.declared.verdict.Mood.{Mood}
-use Rattle.fsl_core.specs.States.{Env}
-use Rattle.fsl_core.specs.logic.States.{State, goes, Branches, Rule, followed}
+use Rattle.fsl_core.specs.logic.States.{Env, State, goes, Branches, Rule, followed}
 use Rattle.fsl_core.specs.logic.Terms.{expr_of}
 use Rattle.fsl_core.specs.logic.Deciding.{Condition, cond_of, decided}
 use Rattle.fsl_core.specs.logic.Producing.{chosen}

@@ -6,9 +6,8 @@ use Rattle.fsl_asrt.specs.declared.branch.Bound.{Bound}
 use Rattle.fsl_asrt.specs.declared.branch.Bound.TheVariants as binding
 use Rattle.fsl_asrt.specs.declared.branch.Decided.{Decided}
 use Rattle.fsl_asrt.specs.declared.branch.Decided.TheVariants as answer
-use Rattle.fsl_core.specs.States.{Env}
+use Rattle.fsl_core.specs.logic.States.{Env, Branches, goes, fails}
 use Rattle.fsl_core.specs.logic.States as logic
-use Rattle.fsl_core.specs.logic.States.{Branches, goes, fails}
 
 abbrev pub branch_of : Branch → logic.Branch (Unit {0})
 branch_of (branching.Goes state) = goes tt state

@@ -5,9 +5,8 @@ use Rattle.fsl_asrt.specs.declared.pointed.Value.{Value}
 use Rattle.fsl_asrt.specs.declared.pointed.Value.TheVariants as value
 use Rattle.fsl_core.specs.declared.verdict.Kind.TheVariants.{Term}
 use Rattle.fsl_core.specs.declared.mode.Rung.{Rung}
-use Rattle.fsl_core.specs.States.{Env}
+use Rattle.fsl_core.specs.logic.States.{Env, Rule, goes, fails, ◌>>=◌, ◌>>◌, give}
 use Rattle.fsl_core.specs.logic.Chunks.{Cell}
-use Rattle.fsl_core.specs.logic.States.{Rule, goes, fails, ◌>>=◌, ◌>>◌, give}
 use Rattle.fsl_core.specs.logic.Terms.{Expression, term}
 use Rattle.fsl_core.specs.logic.Joining.{assume_share, add_cell}
 use Rattle.fsl_core.specs.logic.Producing.{Wanted, any, bind, equals, Pattern, wanted, add_wanted}

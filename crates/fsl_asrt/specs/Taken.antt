@@ -9,8 +9,7 @@ use Rattle.fsl_asrt.specs.declared.cells.FoundCell.{FoundCell}
 use Rattle.fsl_core.specs.declared.chunk.Chunk.{Chunk}
 use Rattle.fsl_core.specs.declared.mode.Rung.{Rung}
 use Rattle.fsl_core.specs.declared.verdict.Kind.TheVariants.{Value}
-use Rattle.fsl_core.specs.States.{Env}
-use Rattle.fsl_core.specs.logic.States.{State, Rule, goes, fails, ◌>>=◌, ◌>>◌, give}
+use Rattle.fsl_core.specs.logic.States.{Env, State, Rule, goes, fails, ◌>>=◌, ◌>>◌, give}
 use Rattle.fsl_core.specs.logic.Terms.{fitting}
 use Rattle.fsl_core.specs.logic.Deciding.{assume_at_most}
 use Rattle.fsl_core.specs.logic.Chunks.{Cell, Found}

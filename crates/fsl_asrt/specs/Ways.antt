@@ -3,8 +3,7 @@ use Rattle.std.specs.Prelude.{List, map}
 use Rattle.fsl_asrt.specs.declared.walk.Way.{Way}
 use Rattle.fsl_asrt.specs.declared.walk.Way.TheVariants.{Produce, Consume}
 use Rattle.fsl_core.specs.declared.mode.Rung.{Rung}
-use Rattle.fsl_core.specs.States.{Env}
-use Rattle.fsl_core.specs.logic.States.{Rule}
+use Rattle.fsl_core.specs.logic.States.{Env, Rule}
 use Rattle.fsl_core.specs.logic.Terms.{Expression}
 use Rattle.fsl_core.specs.logic.Deciding.{Condition}
 use Rattle.fsl_core.specs.logic.Producing.{Pattern, fact_produced, points_produced, all_produced}

@@ -1,7 +1,7 @@
 //! The terms of a points-to: its cell, its share, and what its pattern says of the value.
 ghost use Rattle.std.specs.Prelude.{◌≡◌, [], ◌∷◌, IfOk};
 ghost use Rattle.fsl_lin.specs.Combination.{Combination};
-ghost use Rattle.fsl_core.specs.States as states;
+ghost use Rattle.fsl_core.specs.logic.States as states;
 ghost use Rattle.fsl_core.specs.logic.States.{Rule, demand_some};
 ghost use Rattle.fsl_core.specs.logic.Terms.{expr_of};
 ghost use Rattle.fsl_core.specs.logic.Producing.{Wanted, wanted, pat_of};

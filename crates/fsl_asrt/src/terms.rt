@@ -2,8 +2,7 @@
 //! by what is known.
 ghost use Rattle.std.specs.Prelude.{◌≡◌, pos, true, IfOk, IfErr, None, Some, get_or};
 ghost use Rattle.fsl_lin.specs.Combination.{constant, times, is_narrow};
-ghost use Rattle.fsl_core.specs.Terms.{narrow, signed, last_or};
-ghost use Rattle.fsl_core.specs.logic.Terms.{constant_of, multiplied, expr_of};
+ghost use Rattle.fsl_core.specs.logic.Terms.{narrow, signed, last_or, constant_of, multiplied, expr_of};
 
 use fsl_base::TryClone;
 use fsl_chunk::Env;

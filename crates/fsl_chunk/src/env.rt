@@ -14,7 +14,7 @@ pub struct Env {
 }
 
 impl Model for Env {
-    ghost use Rattle.fsl_core.specs.States as states;
+    ghost use Rattle.fsl_core.specs.logic.States as states;
 
     ghost Value = { states.Env };
 

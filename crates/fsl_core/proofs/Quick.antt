@@ -18,8 +18,7 @@ use Rattle.fsl_core.specs.declared.verdict.Outcome.{Outcome}
 use Rattle.fsl_core.specs.declared.verdict.Outcome.TheVariants.{Derived, Fails}
 use Rattle.fsl_core.specs.declared.verdict.Verdict.{Verdict}
 use Rattle.fsl_core.specs.declared.verdict.Verdict.TheVariants.{Accepted}
-use Rattle.fsl_core.specs.Paths.{End}
-use Rattle.fsl_core.specs.Verdicts.{outcome_from, verdict_from}
+use Rattle.fsl_core.specs.Verdicts.{End, outcome_from, verdict_from}
 use Rattle.fsl_core.specs.logic.Terms.{Expression, expr_step, part_step, expr_of}
 use Rattle.fsl_core.specs.logic.Assertions.{Assertion, asrt_step, asrt_of}
 use Rattle.fsl_core.specs.logic.Locations.{contract_of}

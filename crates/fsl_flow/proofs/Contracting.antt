@@ -4,8 +4,7 @@ use Rattle.fsl_core.specs.declared.mode.Rung.TheVariants.{Plain}
 use Rattle.fsl_core.specs.declared.verdict.Kind.{Kind}
 use Rattle.fsl_core.specs.declared.verdict.Kind.TheVariants as kind
 use Rattle.fsl_core.specs.declared.verdict.Mood.TheVariants as mood
-use Rattle.fsl_core.specs.States.{Env}
-use Rattle.fsl_core.specs.logic.States.{State, goes, fails, followed, ◌>>=◌, ◌>>◌, done, change}
+use Rattle.fsl_core.specs.logic.States.{Env, State, goes, fails, followed, ◌>>=◌, ◌>>◌, done, change}
 use Rattle.fsl_core.specs.logic.Deciding.{Condition, decided, assume_cond, demand_cond}
 use Rattle.fsl_core.specs.logic.Assertions.{Assertion}
 use Rattle.fsl_core.specs.logic.Locations.{Contract, padded}

@@ -12,8 +12,7 @@ use Rattle.fsl_core.specs.declared.expr.Expr.{Expr}
 use Rattle.fsl_core.specs.declared.verdict.Kind.{Kind}
 use Rattle.fsl_core.specs.declared.verdict.Outcome.{Outcome}
 use Rattle.fsl_core.specs.declared.verdict.Outcome.TheVariants.{Derived, Fails}
-use Rattle.fsl_core.specs.Paths.{End}
-use Rattle.fsl_core.specs.Verdicts.{outcome_from}
+use Rattle.fsl_core.specs.Verdicts.{End, outcome_from}
 use Rattle.fsl_core.specs.logic.States.{State, Branches}
 use Rattle.fsl_core.specs.logic.Deciding.{cond_of}
 use Rattle.fsl_core.specs.logic.Producing.{chosen}

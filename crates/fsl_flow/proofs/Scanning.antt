@@ -5,8 +5,7 @@ use Rattle.fsl_core.specs.declared.verdict.Kind.{Kind}
 use Rattle.fsl_core.specs.declared.verdict.Kind.TheVariants.{Paths}
 use Rattle.fsl_core.specs.declared.verdict.Outcome.{Outcome}
 use Rattle.fsl_core.specs.declared.verdict.Outcome.TheVariants.{Derived, Fails}
-use Rattle.fsl_core.specs.Paths.{End, derived, failed}
-use Rattle.fsl_core.specs.Verdicts.{outcome_from}
+use Rattle.fsl_core.specs.Verdicts.{End, derived, failed, outcome_from}
 
 goes_next : (number c : ℕ) (at : Span) (xs ys : List End) (k : ℕ) (room : Bool)
     → (outcome_from number (c + 1) xs ≡ Derived k → outcome_from number (c + 1) (xs ++ ys) ≡ outcome_from number k ys)

@@ -8,7 +8,7 @@ use Rattle.fsl_core.specs.declared.act.Act.TheViews.{out-Act}
 use Rattle.fsl_core.specs.declared.act.Act.TheFolds.{fold-Stmt, fold_out-Act, map-Act}
 use Rattle.fsl_core.specs.declared.mode.Mode.TheVariants.{Na}
 use Rattle.fsl_core.specs.declared.verdict.Kind.{Kind}
-use Rattle.fsl_core.specs.Paths.{failed}
+use Rattle.fsl_core.specs.Verdicts.{failed}
 use Rattle.fsl_core.specs.logic.States.{State, goes, fails, Branches, Action}
 use Rattle.fsl_core.specs.logic.Slots.{past}
 use Rattle.fsl_core.specs.logic.Paths.{Ends, Meaning, Reading, each, block, act_step, stmt_step, stmt_of}

@@ -7,7 +7,7 @@ use Rattle.fsl_core.specs.declared.act.Act.TheOpen.{Act-F, Stmt-F}
 use Rattle.fsl_core.specs.declared.act.Act.TheFolds.{fold-Act, fold-Stmt}
 use Rattle.fsl_core.specs.declared.verdict.Outcome.{Outcome}
 use Rattle.fsl_core.specs.declared.verdict.Outcome.TheVariants.{Derived, Fails}
-use Rattle.fsl_core.specs.Paths.{End}
+use Rattle.fsl_core.specs.Verdicts.{End}
 use Rattle.fsl_core.specs.logic.States.{State, Branches}
 use Rattle.fsl_core.specs.logic.Terms.{expr_of}
 use Rattle.fsl_core.specs.logic.Deciding.{cond_of}

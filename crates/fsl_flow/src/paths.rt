@@ -2,8 +2,7 @@
 //! left, and the walk stops at the first failure and where there are too many paths.
 ghost use Rattle.std.specs.Prelude.{◌≡◌, ◌<◌, ◌≤◌, [], ◌∷◌, map, IfOk, IsTrue, Some, length, slice_get, false};
 ghost use Rattle.std.specs.Option.{option_map};
-ghost use Rattle.fsl_core.specs.Paths.{derived};
-ghost use Rattle.fsl_core.specs.Verdicts.{outcome_from};
+ghost use Rattle.fsl_core.specs.Verdicts.{derived, outcome_from};
 ghost use Rattle.fsl_core.specs.logic.Verdicts.{outcome_of};
 ghost use Rattle.fsl_asrt.specs.Branches.{branches, decided};
 ghost use Rattle.fsl_asrt.specs.Built as assertions;
@@ -12,7 +11,6 @@ ghost use Rattle.fsl_flow.specs.Rests.{ends_behind, block_ends, act_ends, each_e
 ghost use Rattle.fsl_flow.specs.Simple.{is_simple};
 
 use crate::contract::{close, enter, give_inv, return_with};
-pub use crate::covered::built;
 use crate::job::Job;
 use crate::looping::{at_body, at_round, decide};
 use crate::rest::{Rest, Round};
@@ -41,7 +39,7 @@ pub fn outcome(alloc: Global, p: &Program, proc: u32) -> Result<Outcome, AllocEr
     let job = Job {
         program: p,
         number: proc,
-        proc: &p.procs.as_slice()[proc as usize],
+        proc: &p.procs()[proc as usize],
     };
     judge(alloc, &job)
 }

@@ -1,7 +1,8 @@
 //! The verdict on a program, its procedures on several workers.
 ghost use Rattle.std.specs.Prelude.{◌≡◌, ◌≤◌, ◌<◌, IfOk, IsTrue, length, slice_get, Some};
-ghost use Rattle.fsl_core.specs.Straight.{is_straight};
-ghost use Rattle.fsl_core.specs.Verdicts.{outcomes_from, verdict_of};
+ghost use Rattle.fsl_core.specs.logic.Paths.{ends_of};
+ghost use Rattle.fsl_core.specs.logic.Verdicts.{outcomes, verdict_of};
+ghost use Rattle.fsl_flow.specs.Built.{is_built};
 ghost use Rattle.fsl_sound.specs.Covered.{IsCovered};
 
 use fsl_base::Gate;
@@ -19,7 +20,7 @@ struct Procedures<'a> {
 }
 
 impl<'a> Work for Procedures<'a> {
-    ghost outcomes = { λ work. outcomes_from 0 work.program.now.procs };
+    ghost outcomes = { λ work. outcomes (ends_of work.program.now) 0 work.program.now.procs };
 
     fn units(&self) -> u32 {
         self.program.procs().len() as u32
@@ -40,7 +41,7 @@ pub fn judge<R: Threads + Sync, G: Gate>(
     workers: u32,
     gate: &G,
 ) -> Result<Verdict, AllocError>
-    requires covered { IsTrue (is_straight p.now) }
+    requires covered { IsTrue (is_built p.now) }
     requires some { 1 ≤ workers }
     requires few { workers ≤ 64 }
     ensures { IfOk result (λ v. v ≡ verdict_of p.now) }

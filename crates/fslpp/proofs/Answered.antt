@@ -1,35 +1,33 @@
 -- What is known of an answer once it is composed, and of the words once they are read.
 use Rattle.std.proofs.Common.{◌≡◌, ℕ, List, Option, None, Some, Result, Ok, Err, IfOk, sym, subst, refl}
-use Rattle.std.specs.Prelude.{IsTrue}
 use Rattle.fsl_core.specs.Programs.{Program}
-use Rattle.fsl_core.specs.Straight.{is_straight}
-use Rattle.fsl_types.specs.Reading.{ReadsAs}
 use Rattle.fslpp.specs.declared.answer.Answer.{Answer}
+use Rattle.fslpp.specs.declared.command.Command.TheVariants.{Check, Run}
 use Rattle.fslpp.specs.declared.refused.Unread.{Unread}
 use Rattle.fslpp.specs.declared.status.Status.{Status}
-use Rattle.fslpp.specs.Answers.{Reading, IsOnly, Writing, HasFile, HasCause, IsChecked, judged, refused, IsSaid, IsAnswered, IsRan, IsRunAnswer, fails, runs, has_program, has_none, answer, run_answer, verdict_answer, verdict_status, refusal}
+use Rattle.fslpp.specs.Answers.{Reading, Writing, HasCause, IsProgramOf, IsChecked, judged, refused, IsSaid, IsAnswered, IsRan, IsRunAnswer, fails, runs, has_program, has_none, answer, run_answer, verdict_answer, verdict_status, refusal}
 use Rattle.fslpp.specs.Texts.{usage}
-use Rattle.fsl_core.specs.Verdicts.{verdict_of}
+use Rattle.fsl_core.specs.logic.Verdicts.{verdict_of}
 use Rattle.fsl_machine.specs.declared.ends.End.{End}
 use Rattle.fsl_graph.specs.declared.graph.Graph.{Graph}
 use Rattle.fsl_run.specs.Runs.{IsRunOf}
 
-pub judged_is : {E : Type 0} (r : Reading) (bytes : List ℕ) (p : Program) → HasFile r.content r.name bytes → ReadsAs bytes p → IsOnly bytes p → IsTrue (is_straight p)
+pub judged_is : {E : Type 0} (r : Reading) (bytes : List ℕ) (p : Program) → IsProgramOf Check r bytes p
     → (result : Result Answer E) → IfOk result (λ a. a ≡ verdict_answer bytes p) → IfOk result (λ a. IsChecked r a)
-judged_is r bytes p file reads only covered (Ok a) is = judged bytes p file reads only covered is
-judged_is r bytes p file reads only covered (Err e) is = tt
+judged_is r bytes p program (Ok a) is = judged bytes p program is
+judged_is r bytes p program (Err e) is = tt
 
-pub refused_is : {E : Type 0} (r : Reading) (unread : Unread) → HasCause r unread
+pub refused_is : {E : Type 0} (r : Reading) (unread : Unread) → HasCause Check r unread
     → (result : Result Answer E) → IfOk result (λ a. refusal unread ≡ Some a) → IfOk result (λ a. IsChecked r a)
 refused_is r unread cause (Ok a) is = refused unread cause is
 refused_is r unread cause (Err e) is = tt
 
-pub run_is : {E : Type 0} (r : Reading) (steps : ℕ) (bytes : List ℕ) (p : Program) → HasFile r.content r.name bytes → ReadsAs bytes p → IsOnly bytes p → IsTrue (is_straight p)
+pub run_is : {E : Type 0} (r : Reading) (steps : ℕ) (bytes : List ℕ) (p : Program) → IsProgramOf Run r bytes p
     → (result : Result Answer E) → IfOk result (IsRunAnswer bytes p steps) → IfOk result (IsRan r steps)
-run_is r steps bytes p file reads only covered (Ok a) is = has_program bytes p file reads only covered is
-run_is r steps bytes p file reads only covered (Err e) is = tt
+run_is r steps bytes p program (Ok a) is = has_program bytes p program is
+run_is r steps bytes p program (Err e) is = tt
 
-pub not_read_is : {E : Type 0} (r : Reading) (steps : ℕ) (unread : Unread) → HasCause r unread
+pub not_read_is : {E : Type 0} (r : Reading) (steps : ℕ) (unread : Unread) → HasCause Run r unread
     → (result : Result Answer E) → IfOk result (λ a. refusal unread ≡ Some a) → IfOk result (IsRan r steps)
 not_read_is r steps unread cause (Ok a) is = has_none unread cause is
 not_read_is r steps unread cause (Err e) is = tt

@@ -1,4 +1,5 @@
 pub mod Answered
 pub mod Only
 pub mod Refusing
+pub mod Straight
 pub mod Unread

@@ -6,8 +6,7 @@ use Rattle.fsl_base.specs.Outside.{Content, Rose, HoldsNo, raised}
 use Rattle.fsl_core.specs.Programs.{Program}
 use Rattle.fsl_core.specs.declared.verdict.Verdict.{Verdict}
 use Rattle.fsl_core.specs.declared.verdict.Verdict.TheVariants.{Accepted, Failed}
-use Rattle.fsl_core.specs.Straight.{is_straight}
-use Rattle.fsl_core.specs.Verdicts.{verdict_of}
+use Rattle.fsl_core.specs.logic.Verdicts.{verdict_of}
 use Rattle.fsl_exec_text.specs.Texts.{execution_text}
 use Rattle.fsl_graph.specs.declared.graph.Graph.{Graph}
 use Rattle.fsl_machine.specs.declared.ends.End.{End}
@@ -15,10 +14,13 @@ use Rattle.fsl_machine.specs.declared.ends.End.TheVariants as ends
 use Rattle.fsl_run.specs.Runs.{IsRunOf}
 use Rattle.fsl_types.specs.Reading.{ReadsAs}
 use Rattle.fslpp.specs.declared.answer.Answer.{Answer}
+use Rattle.fslpp.specs.declared.command.Command.{Command}
+use Rattle.fslpp.specs.declared.command.Command.TheVariants.{Check, Run}
 use Rattle.fslpp.specs.declared.refused.Refused.{Refused}
 use Rattle.fslpp.specs.declared.refused.Unread.{Unread}
 use Rattle.fslpp.specs.declared.refused.Refused.TheVariants as refusals
 use Rattle.fslpp.specs.declared.status.Status.{Status}
+use Rattle.fslpp.specs.Covered.{covers}
 use Rattle.fslpp.specs.Refusals.{IsUnread}
 use Rattle.fslpp.specs.Texts.{verdict_text, read_fault, refused_text, usage}
 
@@ -89,28 +91,33 @@ pub record Reading : Type 0 where
   pub given_before : ℕ
   pub given_after : ℕ
 
--- a file was read, and its bytes are no program that the rules cover
-pub record IsRefused (r : Reading) (bytes : List ℕ) (fault : Refused) : Type 0 where
+-- a file was read, and its bytes are no program that the command covers
+pub record IsRefused (command : Command) (r : Reading) (bytes : List ℕ) (fault : Refused) : Type 0 where
   pub file : HasFile r.content r.name bytes
-  pub why : IsUnread bytes fault
+  pub why : IsUnread command bytes fault
 
 -- why no program was read: the shelf failed or has no such file; the file is too long; its bytes are no program, or
--- none that the rules cover; or there is no memory
-abbrev pub CausedBy : Reading → List ℕ → Refused → Type 0
-CausedBy r bytes refusals.Read = Rose r.faults_before r.faults_after ⊎ HoldsNo r.content r.name
-CausedBy r bytes refusals.Size = HasTooMany r.content r.name r.given_before r.given_after
-CausedBy r bytes refusals.NoMemory = Unit {0}
-CausedBy r bytes fault = IsRefused r bytes fault
+-- none that the command covers; or there is no memory
+abbrev pub CausedBy : Command → Reading → List ℕ → Refused → Type 0
+CausedBy command r bytes refusals.Read = Rose r.faults_before r.faults_after ⊎ HoldsNo r.content r.name
+CausedBy command r bytes refusals.Size = HasTooMany r.content r.name r.given_before r.given_after
+CausedBy command r bytes refusals.NoMemory = Unit {0}
+CausedBy command r bytes fault = IsRefused command r bytes fault
 
-abbrev pub HasCause : Reading → Unread → Type 0
-HasCause r unread = CausedBy r unread.bytes unread.fault
+abbrev pub HasCause : Command → Reading → Unread → Type 0
+HasCause command r unread = CausedBy command r unread.bytes unread.fault
 
--- an answer of `check`: the verdict of the rules on the one program that the file is, which they cover, or a refusal
--- with its cause
+-- the file has these bytes, and they are one program alone, which the command covers
+pub record IsProgramOf (command : Command) (r : Reading) (bytes : List ℕ) (p : Program) : Type 0 where
+  pub file : HasFile r.content r.name bytes
+  pub reads : ReadsAs bytes p
+  pub only : IsOnly bytes p
+  pub covered : IsTrue (covers command p)
+
+-- an answer of `check`: the verdict of the rules on the one program that the file is, or a refusal with its cause
 pub data IsChecked (r : Reading) (a : Answer) : Type 0 where
-  judged : (bytes : List ℕ) (p : Program) → HasFile r.content r.name bytes → ReadsAs bytes p → IsOnly bytes p → IsTrue (is_straight p)
-      → a ≡ verdict_answer bytes p → IsChecked r a
-  refused : (unread : Unread) → HasCause r unread → refusal unread ≡ Some a → IsChecked r a
+  judged : (bytes : List ℕ) (p : Program) → IsProgramOf Check r bytes p → a ≡ verdict_answer bytes p → IsChecked r a
+  refused : (unread : Unread) → HasCause Check r unread → refusal unread ≡ Some a → IsChecked r a
 
 -- the answer of `run` on the program that these bytes are: the verdict of the rules where it fails, else one run
 pub data IsRunAnswer (bytes : List ℕ) (p : Program) (steps : ℕ) (a : Answer) : Type 0 where
@@ -120,9 +127,8 @@ pub data IsRunAnswer (bytes : List ℕ) (p : Program) (steps : ℕ) (a : Answer)
 
 -- an answer of `run`: that on the one program that the file is, or a refusal with its cause
 pub data IsRan (r : Reading) (steps : ℕ) (a : Answer) : Type 0 where
-  has_program : (bytes : List ℕ) (p : Program) → HasFile r.content r.name bytes → ReadsAs bytes p → IsOnly bytes p → IsTrue (is_straight p)
-      → IsRunAnswer bytes p steps a → IsRan r steps a
-  has_none : (unread : Unread) → HasCause r unread → refusal unread ≡ Some a → IsRan r steps a
+  has_program : (bytes : List ℕ) (p : Program) → IsProgramOf Run r bytes p → IsRunAnswer bytes p steps a → IsRan r steps a
+  has_none : (unread : Unread) → HasCause Run r unread → refusal unread ≡ Some a → IsRan r steps a
 
 -- a push failed: the sink's count of faults rose, and a first part of the text was appended
 pub record IsCut (faults_before faults_after : ℕ) (before after : Option (List ℕ)) (text : List ℕ) : Type 0 where

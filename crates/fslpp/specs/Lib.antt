@@ -1,3 +1,4 @@
 pub mod Answers
+pub mod Covered
 pub mod Refusals
 pub mod Texts

@@ -1,10 +1,11 @@
 //! The commands of the program, and the top call that chooses one by the words.
 ghost use Rattle.std.specs.Prelude.{◌≡◌, ◌≤◌, codes, length, map, option_map, IfOk, IsTrue};
-ghost use Rattle.fsl_core.specs.Straight.{is_straight};
+ghost use Rattle.fsl_flow.specs.Built.{is_built};
 ghost use Rattle.fslpp.specs.Answers.{IsAnswered, IsChecked, IsSaid, answer, named, verdict_answer, verdict_status};
 ghost use Rattle.fslpp.specs.Texts.{usage};
 
 use crate::answer::{Answer, say};
+use crate::command::Command;
 use crate::loading::{Loaded, read_program};
 use crate::refusals::{fixed, refused};
 use crate::run::run_cmd;
@@ -42,7 +43,7 @@ fn judged<R: Threads + Sync, G: Gate>(
     workers: u32,
     gate: &G,
 ) -> Result<Answer, AllocError>
-    requires covered { IsTrue (is_straight loaded.now.program) }
+    requires covered { IsTrue (is_built loaded.now.program) }
     requires within { length loaded.now.bytes ≤ 1048576 }
     requires some { 1 ≤ workers }
     requires few { workers ≤ 64 }
@@ -69,7 +70,7 @@ fn checked<R: Threads + Sync, H: Shelf, G: Gate>(
     requires few { workers ≤ 64 }
     ensures { IfOk result (λ a. IsChecked (record { content = H.content shelf.old; name = name.now; faults_before = H.faults shelf.old; faults_after = H.faults shelf.new; given_before = H.given shelf.old; given_after = H.given shelf.new }) a) }
 {
-    match read_program(alloc, name, shelf) {
+    match read_program(alloc, name, shelf, Command::Check) {
         Ok(loaded) => judged(rt, alloc, &loaded, workers, gate),
         Err(unread) => refused(alloc, &unread),
     }

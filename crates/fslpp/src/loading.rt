@@ -1,16 +1,17 @@
 //! From the name of a file to the program that its bytes are.
 ghost use Rattle.std.specs.Prelude.{◌≡◌, ◌≤◌, [], IfErr, IfOk, IsTrue, Ok, length};
-ghost use Rattle.fsl_core.specs.Straight.{is_straight};
 ghost use Rattle.fsl_token.specs.Tokens.{lexed};
 ghost use Rattle.fsl_tree.specs.declared.file.File.{File};
 ghost use Rattle.fsl_types.specs.Reading.{IsTreeOf, ReadsAs};
-ghost use Rattle.fslpp.specs.Answers.{CausedBy, HasCause, HasFile, IsOnly};
+ghost use Rattle.fslpp.specs.declared.command.Command.{Command};
+ghost use Rattle.fslpp.specs.Answers.{CausedBy, HasCause, HasFile, IsOnly, IsProgramOf};
+ghost use Rattle.fslpp.specs.Covered.{covers};
 ghost use Rattle.fslpp.specs.Refusals.{IsUnread};
 
+use crate::command::Command;
 use crate::refused::{Refused, Unread};
 use fsl_base::{List, ReadAll, Shelf, read_all};
 use fsl_core::Program;
-use fsl_flow::built;
 use fsl_parse::{ParseFault, parse};
 use fsl_token::{LexFault, Token, lex};
 use fsl_tree::File;
@@ -30,7 +31,7 @@ pub struct Loaded {
 /// The bytes of a file.
 fn file_bytes<H: Shelf>(alloc: Global, name: &str, shelf: &mut H) -> Result<List<u8>, Refused>
     ensures file { IfOk result (λ bytes. HasFile (H.content shelf.old) name.now bytes) }
-    ensures cause { IfErr result (λ fault. CausedBy (record { content = H.content shelf.old; name = name.now; faults_before = H.faults shelf.old; faults_after = H.faults shelf.new; given_before = H.given shelf.old; given_after = H.given shelf.new }) [] fault) }
+    ensures cause { IfErr result (λ fault. (command : Command) → CausedBy command (record { content = H.content shelf.old; name = name.now; faults_before = H.faults shelf.old; faults_after = H.faults shelf.new; given_before = H.given shelf.old; given_after = H.given shelf.new }) [] fault) }
     ensures content { H.content shelf.new ≡ H.content shelf.old }
 {
     if shelf.begin(name).is_err() {
@@ -49,7 +50,7 @@ fn file_bytes<H: Shelf>(alloc: Global, name: &str, shelf: &mut H) -> Result<List
 fn tokens_of(alloc: Global, bytes: &[u8]) -> Result<List<Token>, Refused>
     requires { length bytes.now ≤ 1048576 }
     ensures cut { IfOk result (λ tokens. lexed bytes.now ≡ Ok tokens) }
-    ensures fault { IfErr result (IsUnread bytes.now) }
+    ensures fault { IfErr result (λ fault. (command : Command) → IsUnread command bytes.now fault) }
 {
     match lex(alloc, bytes) {
         Ok(tokens) => Ok(tokens),
@@ -64,7 +65,7 @@ fn tree_of(alloc: Global, bytes: &[u8]) -> Result<File, Refused>
     requires { length bytes.now ≤ 1048576 }
     ensures tree { IfOk result (IsTreeOf bytes.now) }
     ensures only { IfOk result (λ file. (other : File) → IsTreeOf bytes.now other → other ≡ file) }
-    ensures fault { IfErr result (IsUnread bytes.now) }
+    ensures fault { IfErr result (λ fault. (command : Command) → IsUnread command bytes.now fault) }
 {
     let tokens = match tokens_of(alloc, bytes) {
         Ok(tokens) => tokens,
@@ -78,23 +79,23 @@ fn tree_of(alloc: Global, bytes: &[u8]) -> Result<File, Refused>
     }
 }
 
-/// The program of the only tree of these bytes, where the rules cover it.
-#[tactic(auto, using(crate::proofs::Only::reads, crate::proofs::Only::only_program, crate::proofs::Unread::ill_typed, crate::proofs::Unread::not_straight, crate::proofs::Unread::with_predicates))]
-fn typed(alloc: Global, bytes: &[u8], file: &File) -> Result<Program, Refused>
+/// The program of the only tree of these bytes, where the command covers it.
+#[tactic(auto, using(crate::proofs::Only::reads, crate::proofs::Only::only_program, crate::proofs::Unread::ill_typed, crate::proofs::Unread::not_covered, crate::proofs::Unread::with_predicates))]
+fn typed(alloc: Global, bytes: &[u8], file: &File, command: Command) -> Result<Program, Refused>
     requires within { length bytes.now ≤ 1048576 }
     requires tree { IsTreeOf bytes.now file.now }
     requires only { (other : File) → IsTreeOf bytes.now other → other ≡ file.now }
     ensures reads { IfOk result (λ p. ReadsAs bytes.now p) }
     ensures only { IfOk result (λ p. IsOnly bytes.now p) }
-    ensures covered { IfOk result (λ p. IsTrue (is_straight p)) }
-    ensures fault { IfErr result (IsUnread bytes.now) }
+    ensures covered { IfOk result (λ p. IsTrue (covers command p)) }
+    ensures fault { IfErr result (IsUnread command bytes.now) }
 {
     if has_predicates(file) {
         return Err(Refused::Form);
     }
     match resolve(alloc, bytes, file) {
         Ok(program) => {
-            if built(&program) {
+            if command.covers(&program) {
                 Ok(program)
             } else {
                 Err(Refused::Form)
@@ -105,16 +106,16 @@ fn typed(alloc: Global, bytes: &[u8], file: &File) -> Result<Program, Refused>
     }
 }
 
-/// The program that the bytes are, where the rules cover it.
-fn program_of(alloc: Global, bytes: &[u8]) -> Result<Program, Refused>
+/// The program that the bytes are, where the command covers it.
+fn program_of(alloc: Global, bytes: &[u8], command: Command) -> Result<Program, Refused>
     requires { length bytes.now ≤ 1048576 }
     ensures reads { IfOk result (λ p. ReadsAs bytes.now p) }
     ensures only { IfOk result (λ p. IsOnly bytes.now p) }
-    ensures covered { IfOk result (λ p. IsTrue (is_straight p)) }
-    ensures fault { IfErr result (IsUnread bytes.now) }
+    ensures covered { IfOk result (λ p. IsTrue (covers command p)) }
+    ensures fault { IfErr result (IsUnread command bytes.now) }
 {
     match tree_of(alloc, bytes) {
-        Ok(file) => typed(alloc, bytes, &file),
+        Ok(file) => typed(alloc, bytes, &file, command),
         Err(fault) => Err(fault),
     }
 }
@@ -129,14 +130,16 @@ fn without_place(alloc: Global, fault: Refused) -> Unread
     }
 }
 
-/// Reads the program of a file.
+/// Reads the program of a file for a command, which has to cover it.
 #[tactic(auto, using(crate::proofs::Unread::cause_of))]
-pub fn read_program<H: Shelf>(alloc: Global, name: &str, shelf: &mut H) -> Result<Loaded, Unread>
-    ensures reads { IfOk result (λ loaded. ReadsAs loaded.bytes loaded.program) }
-    ensures only { IfOk result (λ loaded. IsOnly loaded.bytes loaded.program) }
-    ensures file { IfOk result (λ loaded. HasFile (H.content shelf.old) name.now loaded.bytes) }
-    ensures covered { IfOk result (λ loaded. IsTrue (is_straight loaded.program)) }
-    ensures cause { IfErr result (λ unread. HasCause (record { content = H.content shelf.old; name = name.now; faults_before = H.faults shelf.old; faults_after = H.faults shelf.new; given_before = H.given shelf.old; given_after = H.given shelf.new }) unread) }
+pub fn read_program<H: Shelf>(
+    alloc: Global,
+    name: &str,
+    shelf: &mut H,
+    command: Command,
+) -> Result<Loaded, Unread>
+    ensures program { IfOk result (λ loaded. IsProgramOf command (record { content = H.content shelf.old; name = name.now; faults_before = H.faults shelf.old; faults_after = H.faults shelf.new; given_before = H.given shelf.old; given_after = H.given shelf.new }) loaded.bytes loaded.program) }
+    ensures cause { IfErr result (λ unread. HasCause command (record { content = H.content shelf.old; name = name.now; faults_before = H.faults shelf.old; faults_after = H.faults shelf.new; given_before = H.given shelf.old; given_after = H.given shelf.new }) unread) }
     ensures within { IfErr result (λ unread. length unread.bytes ≤ 1048576) }
     ensures content { H.content shelf.new ≡ H.content shelf.old }
 {
@@ -144,7 +147,7 @@ pub fn read_program<H: Shelf>(alloc: Global, name: &str, shelf: &mut H) -> Resul
         Ok(bytes) => bytes,
         Err(fault) => return Err(without_place(alloc, fault)),
     };
-    match program_of(alloc, bytes.as_slice()) {
+    match program_of(alloc, bytes.as_slice(), command) {
         Ok(program) => Ok(Loaded { bytes, program }),
         Err(Refused::NoMemory) => Err(without_place(alloc, Refused::NoMemory)),
         Err(fault) => Err(Unread { bytes, fault }),

@@ -1,10 +1,11 @@
 //! The command `run`: a program is judged, and where it is accepted it is run.
 ghost use Rattle.std.specs.Prelude.{◌≡◌, ◌≤◌, length, IfOk, IsTrue};
 ghost use Rattle.fsl_core.specs.Straight.{is_straight};
-ghost use Rattle.fsl_core.specs.Verdicts.{verdict_of};
+ghost use Rattle.fsl_core.specs.logic.Verdicts.{verdict_of};
 ghost use Rattle.fslpp.specs.Answers.{IsRan, IsRunAnswer, IsSaid, end_status, run_answer, verdict_answer};
 
 use crate::answer::{Answer, say};
+use crate::command::Command;
 use crate::commands::verdict_status;
 use crate::loading::{Loaded, read_program};
 use crate::refusals::refused;
@@ -42,6 +43,7 @@ fn ended(alloc: Global, ran: &Ran) -> Result<Answer, AllocError>
 }
 
 /// The answer on a program that was read: its verdict where it fails, else a run of it.
+#[tactic(auto, using(crate::proofs::Straight::built))]
 fn judged<R: Threads + Sync, G: Gate>(
     rt: &R,
     alloc: Global,
@@ -81,7 +83,7 @@ fn answered<R: Threads + Sync, H: Shelf, G: Gate>(
     requires few { how.workers ≤ 64 }
     ensures { IfOk result (λ a. IsRan (record { content = H.content shelf.old; name = name.now; faults_before = H.faults shelf.old; faults_after = H.faults shelf.new; given_before = H.given shelf.old; given_after = H.given shelf.new }) how.steps a) }
 {
-    match read_program(alloc, name, shelf) {
+    match read_program(alloc, name, shelf, Command::Run) {
         Ok(loaded) => judged(rt, alloc, loaded, how, gate),
         Err(unread) => refused(alloc, &unread),
     }

@@ -3,13 +3,14 @@
 mod limits;
 mod refusals;
 mod runs;
+mod verdicts;
+mod walks;
 
-use crate::commands::{check_cmd, fslpp};
+use crate::commands::fslpp;
 use crate::status::Status;
 use fsl_base::{Cut, List, MemShelf, MemSink, Named, OpenGate, Text};
 use std::alloc::{AllocError, Global};
 use std::process::Abort;
-use std::test::Fail;
 use std::thread::Threads;
 
 // A shelf with one file, `f`, that gives one byte a pull.
@@ -86,7 +87,7 @@ fn programs_are_judged(rt: HostRuntime) {
             3,
             "refused type 1:21 unknown\n",
         ),
-        ("proc main() { while (true) { } }", 3, "refused form\n"),
+        ("proc main() { bank b; }", 3, "refused form\n"),
     ] {
         expect(
             &rt,
@@ -189,35 +190,4 @@ fn faults_have_their_statuses(rt: HostRuntime) {
         2,
         usage,
     );
-}
-
-// A failing program and an accepted one, of one procedure each: the answers are the same for every number of
-// workers. That the lesser of two failing procedures is named is shown on units in the crate of the workers.
-#[test]
-fn the_number_of_workers_changes_no_answer(rt: HostRuntime) -> Result<(), Fail> {
-    for workers in [1, 8, 64] {
-        for (text, status, said) in [
-            ("proc main() { }", 0, "accepted 1\n"),
-            (
-                "proc main() { assert (0 == 1); }",
-                1,
-                "failed main 1:15 assert\n",
-            ),
-        ] {
-            let mut shelf = shelf(rt.alloc(), text.as_bytes(), &[])?;
-            let mut sink = MemSink::new(rt.alloc(), 128, List::new(rt.alloc()))?;
-            let got = check_cmd(
-                &rt,
-                rt.alloc(),
-                "f",
-                workers,
-                &mut shelf,
-                &mut sink,
-                &OpenGate,
-            );
-            assert_eq!(rt; got, Status(status), "{workers} workers");
-            assert_eq!(rt; sink.written(), said.as_bytes(), "{workers} workers");
-        }
-    }
-    Ok(())
 }

@@ -8,8 +8,7 @@ use Rattle.fsl_core.specs.declared.verdict.Kind.{Kind}
 use Rattle.fsl_core.specs.declared.verdict.Kind.TheVariants as kind
 use Rattle.fsl_core.specs.declared.verdict.Mood.{Mood}
 use Rattle.fsl_core.specs.declared.verdict.Mood.TheVariants as mood
-use Rattle.fsl_core.specs.States.{Env}
-use Rattle.fsl_core.specs.logic.States.{Rule, Action, ◌>>=◌, ◌>>◌, give, fail, either, look, demand, demand_some}
+use Rattle.fsl_core.specs.logic.States.{Env, Rule, Action, ◌>>=◌, ◌>>◌, give, fail, either, look, demand, demand_some}
 use Rattle.fsl_core.specs.logic.Terms.{Expression, term, terms, fitting}
 use Rattle.fsl_core.specs.logic.Deciding.{Condition, proves_at_most, proves_equal, assume_at_most, decided, demand_cond}
 use Rattle.fsl_core.specs.logic.Chunks.{Found, Reading, when, find, find_or, put, take, Cell, leave, Permission, same_leave, cell_at, enough_at, init_at, rel_of, rmw_of, tokens_of, authority_of}

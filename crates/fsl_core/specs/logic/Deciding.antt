@@ -8,8 +8,7 @@ use Rattle.fsl_core.specs.declared.expr.Expr.{Expr}
 use Rattle.fsl_core.specs.declared.expr.CmpOp.TheVariants as cmp_op
 use Rattle.fsl_core.specs.declared.verdict.Kind.{Kind}
 use Rattle.fsl_core.specs.declared.verdict.Kind.TheVariants as kind
-use Rattle.fsl_core.specs.States.{Env}
-use Rattle.fsl_core.specs.logic.States.{goes, fails, Rule, Action, ◌>>=◌, ◌>>◌, give, done, look, demand}
+use Rattle.fsl_core.specs.logic.States.{Env, goes, fails, Rule, Action, ◌>>=◌, ◌>>◌, give, done, look, demand}
 use Rattle.fsl_core.specs.logic.Terms.{Expression, term}
 use Rattle.fsl_lin.specs.Combination.{Combination, plus, minus, constant, is_narrow}
 use Rattle.fsl_lin.specs.Facts.{proves_le, proves_is, absurd_facts, facts_fit}

@@ -5,8 +5,7 @@ use Rattle.fsl_core.specs.declared.mode.Rung.{Rung}
 use Rattle.fsl_core.specs.declared.declaration.Proc.{Proc}
 use Rattle.fsl_core.specs.Programs.{Program}
 use Rattle.fsl_core.specs.declared.verdict.Mood.TheVariants as mood
-use Rattle.fsl_core.specs.States.{Env}
-use Rattle.fsl_core.specs.logic.States.{Rule, Action, ◌>>=◌, ◌>>◌, give, done}
+use Rattle.fsl_core.specs.logic.States.{Env, Rule, Action, ◌>>=◌, ◌>>◌, give, done}
 use Rattle.fsl_core.specs.logic.Chunks.{Leave}
 use Rattle.fsl_core.specs.logic.Joining.{nought}
 use Rattle.fsl_core.specs.logic.Messages.{Held}

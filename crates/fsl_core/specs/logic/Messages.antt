@@ -6,8 +6,7 @@ use Rattle.fsl_core.specs.declared.mode.Rung.{Rung}
 use Rattle.fsl_core.specs.declared.mode.Rung.TheVariants.{Msg}
 use Rattle.fsl_core.specs.declared.verdict.Kind.TheVariants as kind
 use Rattle.fsl_core.specs.declared.verdict.Mood.TheVariants as mood
-use Rattle.fsl_core.specs.States.{Env}
-use Rattle.fsl_core.specs.logic.States.{Rule, Action, ◌>>=◌, ◌>>◌, give, done, look}
+use Rattle.fsl_core.specs.logic.States.{Env, Rule, Action, ◌>>=◌, ◌>>◌, give, done, look}
 use Rattle.fsl_core.specs.logic.Terms.{Expression, term, fitting}
 use Rattle.fsl_core.specs.logic.Deciding.{Condition, decide_at_most, each_side, decided}
 use Rattle.fsl_core.specs.logic.Chunks.{Found, first, find_or, Cell, cell_at, init_at}

@@ -12,7 +12,7 @@ use Rattle.fsl_core.specs.declared.declaration.Proc.{Proc}
 use Rattle.fsl_core.specs.Programs.{Program}
 use Rattle.fsl_core.specs.declared.verdict.Kind.TheVariants as kind
 use Rattle.fsl_core.specs.declared.verdict.Mood.TheVariants as mood
-use Rattle.fsl_core.specs.Paths.{End, derived, failed}
+use Rattle.fsl_core.specs.Verdicts.{End, derived, failed}
 use Rattle.fsl_core.specs.logic.States.{State, goes, fails, Branches, Action, ◌>>=◌, ◌>>◌, done, change, here, set}
 use Rattle.fsl_core.specs.logic.Terms.{Expression, expr_of, term}
 use Rattle.fsl_core.specs.logic.Deciding.{Condition, cond_of, decided, assume_cond, demand_cond}

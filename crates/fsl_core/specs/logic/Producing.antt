@@ -6,8 +6,7 @@ use Rattle.fsl_core.specs.declared.assertion.Pat.TheVariants as pat
 use Rattle.fsl_core.specs.declared.chunk.Chunk.TheVariants as chunk
 use Rattle.fsl_core.specs.declared.expr.Expr.{Expr}
 use Rattle.fsl_core.specs.declared.mode.Rung.{Rung}
-use Rattle.fsl_core.specs.States.{Env}
-use Rattle.fsl_core.specs.logic.States.{Rule, ◌>>=◌, ◌>>◌, give, new_symbol}
+use Rattle.fsl_core.specs.logic.States.{Env, Rule, ◌>>=◌, ◌>>◌, give, new_symbol}
 use Rattle.fsl_core.specs.logic.Terms.{Expression, term, terms}
 use Rattle.fsl_core.specs.logic.Deciding.{Condition, assume_cond, decided}
 use Rattle.fsl_core.specs.logic.Chunks.{add, Leave, leave}

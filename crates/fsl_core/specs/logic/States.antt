@@ -5,9 +5,12 @@ use Rattle.std.specs.Prelude.{ℕ, ◌+◌, Bool, true, false, List, [], ◌∷�
 use Rattle.fsl_core.specs.declared.chunk.Chunk.{Chunk}
 use Rattle.fsl_core.specs.declared.verdict.Kind.{Kind}
 use Rattle.fsl_core.specs.declared.verdict.Kind.TheVariants.{Symbols}
-use Rattle.fsl_core.specs.States.{Env}
 use Rattle.fsl_lin.specs.Combination.{Combination, symbol}
 use Rattle.fsl_lin.specs.declared.fact.Fact.{Fact}
+
+-- the terms of variables
+abbrev pub Env : Type 0
+Env = List Combination
 
 pub record State : Type 0 where
   pub env : Env  -- the terms of the procedure's variables

@@ -6,10 +6,8 @@ use Rattle.fsl_core.specs.declared.expr.Expr.{Expr}
 use Rattle.fsl_core.specs.declared.expr.Expr.TheOpen.{Expr-F, Part-F}
 use Rattle.fsl_core.specs.declared.expr.Expr.TheFolds.{fold-Expr}
 use Rattle.fsl_core.specs.declared.verdict.Kind.TheVariants as kind
-use Rattle.fsl_core.specs.States.{Env}
-use Rattle.fsl_core.specs.Terms.{with_term, narrow, signed, last_or}
-use Rattle.fsl_core.specs.logic.States.{Rule, ◌>>=◌, give, demand_some}
-use Rattle.fsl_lin.specs.Combination.{Combination, times, constant}
+use Rattle.fsl_core.specs.logic.States.{Env, Rule, ◌>>=◌, give, demand_some}
+use Rattle.fsl_lin.specs.Combination.{Combination, plus, minus, times, constant, is_narrow}
 use Rattle.fsl_lin.specs.Facts.{rows}
 use Rattle.fsl_lin.specs.Numbers.{Numbers, part, is_constant}
 use Rattle.fsl_lin.specs.Rows.{normal}
@@ -18,6 +16,21 @@ use Rattle.fsl_lin.specs.declared.fact.Fact.{Fact}
 -- `None` where an expression is no term
 abbrev pub Term : Type 0
 Term = List Fact → Env → Option Combination
+
+abbrev pub with_term : Option Combination → (Combination → Option Combination) → Option Combination
+with_term None f = None
+with_term (Some t) f = f t
+
+abbrev pub narrow : Combination → Option Combination
+narrow t = if is_narrow t then Some t else None
+
+abbrev pub signed : Bool → Combination → Combination → Combination
+signed true a b = minus a b
+signed false a b = plus a b
+
+abbrev pub last_or : Combination → Env → Combination
+last_or t [] = t
+last_or t (u ∷ us) = last_or u us
 
 abbrev pub number_of : Numbers → Option ℤ
 number_of n = if is_constant n then Some (n 0) else None

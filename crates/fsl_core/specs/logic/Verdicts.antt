@@ -4,8 +4,7 @@ use Rattle.fsl_core.specs.declared.declaration.Proc.{Proc}
 use Rattle.fsl_core.specs.Programs.{Program}
 use Rattle.fsl_core.specs.declared.verdict.Outcome.{Outcome}
 use Rattle.fsl_core.specs.declared.verdict.Verdict.{Verdict}
-use Rattle.fsl_core.specs.Paths.{End}
-use Rattle.fsl_core.specs.Verdicts.{outcome_from, verdict_from}
+use Rattle.fsl_core.specs.Verdicts.{End, outcome_from, verdict_from}
 use Rattle.fsl_core.specs.logic.Paths.{ends_of}
 
 -- the outcome of a procedure, by its number: its first failure, else the number of its paths; the 65537th path that

@@ -1,5 +1,5 @@
 //! Uses, counts and limits: programs at each limit and one past it. The programs whose answer is `refused form` are
-//! programs, but not straight.
+//! programs, but none that `check` covers.
 use super::refusals::is_answered;
 use std::alloc::{AllocError, Global};
 
@@ -91,7 +91,7 @@ const USES: [(&str, &str); 20] = [
 const COUNTS: [(&str, &str); 22] = [
     (
         "proc f(p0, p1, p2, p3, p4, p5, p6, p7, p8, p9, p10, p11, p12, p13, p14, p15) { } proc main() { }",
-        "refused form\n",
+        "accepted 2\n",
     ),
     (
         "proc f(p0, p1, p2, p3, p4, p5, p6, p7, p8, p9, p10, p11, p12, p13, p14, p15, p16) { } proc main() { }",
@@ -159,7 +159,7 @@ const COUNTS: [(&str, &str); 22] = [
     ),
     (
         "proc main() { let i = 0; while (i < 3) inv (i <= 3) { i = i + 1; } }",
-        "refused form\n",
+        "accepted 1\n",
     ),
     (
         "proc main() { bank g; let n = fetch_add acq(1, 1) with { mint(g, 1); burn(h, 2); }; }",
@@ -176,7 +176,7 @@ const LIMITS: [(&str, &str, &str, u32, &str, &str); 16] = [
         "() { }\n",
         4095,
         "proc main() { }",
-        "refused form\n",
+        "accepted 4096\n",
     ),
     (
         "",
@@ -208,7 +208,7 @@ const LIMITS: [(&str, &str, &str, u32, &str, &str); 16] = [
         ", ",
         15,
         "last) { } proc main() { }",
-        "refused form\n",
+        "accepted 2\n",
     ),
     (
         "proc f(",
@@ -301,7 +301,7 @@ const LIMITS: [(&str, &str, &str, u32, &str, &str); 16] = [
 ];
 
 // A piece a number of times, each time with its number behind its first half, between a front and a back.
-fn repeated(
+pub fn repeated(
     alloc: Global,
     front: &str,
     piece: (&str, &str),

@@ -1,5 +1,5 @@
 //! Refusals, each with its place: tokens, syntax, names, modes and banks. The programs whose answer is `refused form`
-//! are programs, but not straight.
+//! are programs, but none that `check` covers.
 use super::{expect, run};
 use std::alloc::Global;
 use std::process::Abort;
@@ -110,11 +110,11 @@ const NAMES: [(&str, &str); 27] = [
     ),
     (
         "proc main() { if (true) { let a = 1; } else { let a = 2; } }",
-        "refused form\n",
+        "accepted 1\n",
     ),
     (
         "proc main() { if (true) { let a = 1; } let a = 2; }",
-        "refused form\n",
+        "accepted 1\n",
     ),
     (
         "proc f(d) requires (d |-> ?d) { } proc main() { }",
@@ -126,11 +126,11 @@ const NAMES: [(&str, &str); 27] = [
     ),
     (
         "proc f(d) requires (if (d == 0) { d |-> ?x } else { d |-> ?x }) { } proc main() { }",
-        "refused form\n",
+        "accepted 2\n",
     ),
     (
         "proc f(d) requires (d |-> ?x) ensures (d |-> x) { } proc main() { }",
-        "refused form\n",
+        "accepted 2\n",
     ),
     (
         "proc f(d) ensures (d |-> ?x) { print(x); } proc main() { }",
@@ -240,7 +240,7 @@ const SORTS: [(&str, &str); 46] = [
         "proc f(bank g) { g = 1; } proc main() { }",
         "refused type 1:18 type\n",
     ),
-    ("proc main() { let a = 1; a = 2; }", "refused form\n"),
+    ("proc main() { let a = 1; a = 2; }", "accepted 1\n"),
     (
         "proc f(bank g) { print(g); } proc main() { }",
         "refused type 1:24 type\n",
@@ -283,7 +283,7 @@ const SORTS: [(&str, &str); 46] = [
     ),
     (
         "proc f() ensures (result == 1) { } proc main() { }",
-        "refused form\n",
+        "failed f 1:34 post\n",
     ),
     ("proc main() { print(result); }", "refused type 1:21 type\n"),
     (
@@ -294,10 +294,10 @@ const SORTS: [(&str, &str); 46] = [
         "proc main() { while (true) { if (true) { return 1; } } }",
         "refused type 1:42 type\n",
     ),
-    ("proc main() { if (true) { return; } }", "refused form\n"),
+    ("proc main() { if (true) { return; } }", "accepted 1\n"),
     (
         "proc main() { while (false) { } return 1; }",
-        "refused form\n",
+        "accepted 1\n",
     ),
     (
         "proc main() { while (result == 1) { } }",

@@ -1,5 +1,5 @@
 use Rattle.std.proofs.Common.{◌≡◌}
-use Rattle.fsl_core.specs.Verdicts.{verdict_of}
+use Rattle.fsl_core.specs.logic.Verdicts.{verdict_of}
 use Rattle.fslpp.specs.Answers.{verdict_status}
 use Rattle.fslpp.proofs.Answered.{runs_so}
 use Rattle.fslpp.proofs.run.judged.Goals as goal
