@@ -7,7 +7,7 @@ use Rattle.std.proofs.lemmas.Str.{IsUtf8-from_ascii, is_utf8-from_IsUtf8}
 use Rattle.std.specs.List.{list_all, list_any}
 use Rattle.std.specs.Str.{IsAscii, bytes_eq, is_utf8}
 use Rattle.fsl_core.specs.declared.assertion.Asrt.{Asrt}
-use Rattle.fsl_core.specs.declared.program.Program.{Program}
+use Rattle.fsl_core.specs.Programs.{Program}
 use Rattle.fsl_core.specs.WellFormed.{asrt_fits, inv_fits, is_main, is_well_formed, proc_fits}
 use Rattle.fsl_tree.specs.declared.declaration.Declaration.{Declaration}
 use Rattle.fsl_tree.specs.declared.declaration.Declaration.TheVariants as declarations
@@ -31,19 +31,19 @@ use Rattle.fsl_types.proofs.NamedDeclarations.{invariants_stand, procedures_stan
 
 -- ---- invariants and procedures
 
-parts_fit : (p : Program) (given : Given) → HasInvariants p given → (before : ℕ) (ps : List Part) (walk : Walk) → (parts given before ps walk).walk.faults ≡ []
-    → list_all (λ (a : Asrt). asrt_fits p a false) (parts given before ps walk).made ≡ true
+parts_fit : (p : Program) (given : Given) → HasInvariants p.invs given → (before : ℕ) (ps : List Part) (walk : Walk) → (parts given before ps walk).walk.faults ≡ []
+    → list_all (λ (a : Asrt). asrt_fits p.invs a false) (parts given before ps walk).made ≡ true
 parts_fit p given invs before [] walk none = refl
 parts_fit p given invs before (q ∷ qs) walk none =
     and_from _ _
-    ((assertion_fits p given q.assertion).fits invs in_invariant _ false (λ is. refl) (parts_grow p given (one_more 8 before) qs _ none))
+    ((assertion_fits p.invs given q.assertion).fits invs in_invariant _ false (λ is. refl) (parts_grow p given (one_more 8 before) qs _ none))
     (parts_fit p given invs (one_more 8 before) qs _ none)
 
-procedure_fits : (p : Program) (given : Given) → HasInvariants p given → HasProcedures p given → (q : Procedure) (faults : List Fault)
+procedure_fits : (p : Program) (given : Given) → HasInvariants p.invs given → HasProcedures p given → (q : Procedure) (faults : List Fault)
     → (procedure given q faults).walk.faults ≡ [] → proc_fits p (procedure given q faults).made ≡ true
 procedure_fits p given invs procs q faults none =
-    and_from _ _ ((clause_fits p given q.requires_clause).fits invs in_requires _ true (λ is. refl) (pre_known p given q faults none))
-    (and_from _ _ ((clause_fits p given q.ensures_clause).fits invs in_ensures _ true (λ is. refl) (contract_known p given q faults none))
+    and_from _ _ ((clause_fits p.invs given q.requires_clause).fits invs in_requires _ true (λ is. refl) (pre_known p given q faults none))
+    (and_from _ _ ((clause_fits p.invs given q.ensures_clause).fits invs in_ensures _ true (λ is. refl) (contract_known p given q faults none))
     ((a_block_fits p given q.body).fits invs procs false _ none))
 
 one_more_fits : {X : Type 0} (test : X → Bool) (xs : List X) (x : X) → list_all test xs ≡ true → test x ≡ true → list_all test (xs ++ x ∷ []) ≡ true
@@ -52,13 +52,13 @@ one_more_fits test xs x all one = list_all-append test xs (x ∷ []) ∙ and_fro
 -- ---- declarations
 
 record Fits (p : Program) (so_far : Resolved) : Type 0 where
-  pub invs : list_all (inv_fits p) so_far.invs ≡ true
+  pub invs : list_all (inv_fits p.invs) so_far.invs ≡ true
   pub procs : list_all (proc_fits p) so_far.procs ≡ true
 
-declaration_fits : (p : Program) (given : Given) → HasInvariants p given → HasProcedures p given → (d : Declaration) (so_far : Resolved)
+declaration_fits : (p : Program) (given : Given) → HasInvariants p.invs given → HasProcedures p given → (d : Declaration) (so_far : Resolved)
     → (declaration given d so_far).faults ≡ [] → Fits p so_far → Fits p (declaration given d so_far)
 declaration_fits p given invs procs (declarations.Invariant i) so_far none fit = record {
-  invs = one_more_fits (inv_fits p) so_far.invs (invariant given i so_far.faults).made fit.invs (parts_fit p given invs 0 (i.first ∷ i.more) _ none);
+  invs = one_more_fits (inv_fits p.invs) so_far.invs (invariant given i so_far.faults).made fit.invs (parts_fit p given invs 0 (i.first ∷ i.more) _ none);
   procs = fit.procs;
 }
 declaration_fits p given invs procs (declarations.Predicate pred) so_far none fit = fit
@@ -67,7 +67,7 @@ declaration_fits p given invs procs (declarations.Procedure q) so_far none fit =
   procs = one_more_fits (proc_fits p) so_far.procs (procedure given q so_far.faults).made fit.procs (procedure_fits p given invs procs q so_far.faults none);
 }
 
-declarations_fit : (p : Program) (given : Given) → HasInvariants p given → HasProcedures p given → (ds : List Declaration) (so_far : Resolved)
+declarations_fit : (p : Program) (given : Given) → HasInvariants p.invs given → HasProcedures p given → (ds : List Declaration) (so_far : Resolved)
     → (declare_each given ds so_far).faults ≡ [] → Fits p so_far → Fits p (declare_each given ds so_far)
 declarations_fit p given invs procs [] so_far none fit = fit
 declarations_fit p given invs procs (d ∷ ds) so_far none fit =
@@ -100,7 +100,7 @@ bare_main p (Some s) knows bare =
 -- ---- files
 
 has_invariants : (bytes : List ℕ) (file : File) → (all_listed bytes file.declarations).faults ≡ [] → (resolved bytes file).faults ≡ []
-    → HasInvariants (program_of bytes file) (given_by bytes file.declarations)
+    → HasInvariants (program_of bytes file).invs (given_by bytes file.declarations)
 has_invariants bytes file listed none =
     let given = given_by bytes file.declarations in
     let before : (invariants_of bytes file.declarations).faults ≡ [] =

@@ -15,8 +15,8 @@ use Rattle.fsl_core.specs.declared.act.Stmt.{Stmt}
 use Rattle.fsl_core.specs.declared.assertion.Asrt.TheOpen.{Asrt-F}
 use Rattle.fsl_core.specs.declared.assertion.Asrt.TheVariants.{rolls-Emp}
 use Rattle.fsl_core.specs.declared.expr.Expr.{Expr}
-use Rattle.fsl_core.specs.declared.program.Proc.{Proc}
-use Rattle.fsl_core.specs.declared.program.Program.{Program}
+use Rattle.fsl_core.specs.declared.declaration.Proc.{Proc}
+use Rattle.fsl_core.specs.Programs.{Program}
 use Rattle.fsl_core.specs.Straight.{is_emp}
 use Rattle.fsl_core.specs.WellFormed.{act_fits, act_step, asrt_fits, call_fits, child_fits, is_failure_mode, is_fence_mode, is_load_mode, is_store_mode, is_update_mode, proc_is_plain, proc_takes, stmt_fits}
 use Rattle.fsl_tree.specs.declared.expression.Arguments.{Arguments}
@@ -65,7 +65,7 @@ pub record IsProcedure (p : Program) (procs : List Proc) (name : List ℕ) (s : 
   pub at : slice_get procs s.number ≡ Some proc
   pub named : is_utf8 name ≡ true → proc.name ≡ name
   pub params : proc.params ≡ length s.banks
-  pub plain : s.modal ≡ false → (asrt_fits p proc.pre false && asrt_fits p proc.post false) ≡ true
+  pub plain : s.modal ≡ false → (asrt_fits p.invs proc.pre false && asrt_fits p.invs proc.post false) ≡ true
   pub bare : s.bare ≡ true → (proc.params == 0 && is_emp proc.pre) ≡ true
 
 abbrev pub HasProcedures : Program → Given → Type 0
@@ -90,9 +90,9 @@ a_call_fits p given sight names u faults has none =
 
 plain_found : (p : Program) (name : List ℕ) (used : Span) (arguments : Option Arguments) (place : Span) (o : Option Signature)
     → ((s : Signature) → o ≡ Some s → IsProcedure p p.procs name s) → Keeps (occurrence.Used used (fits arguments o)) → Keeps (occurrence.Child place (is_modal o))
-    → proc_is_plain p (slice_get p.procs (number_of o)) ≡ true
+    → proc_is_plain p.invs (slice_get p.procs (number_of o)) ≡ true
 plain_found p name used arguments place None knows keeps child = absurd (true≢false keeps.known)
-plain_found p name used arguments place (Some s) knows keeps child = let is = knows s refl in ap (proc_is_plain p) is.at ∙ is.plain child.unmodal
+plain_found p name used arguments place (Some s) knows keeps child = let is = knows s refl in ap (proc_is_plain p.invs) is.at ∙ is.plain child.unmodal
 
 call_grows : (given : Given) (sight : Sight) (call : ParallelCall) → Grows (judged_call given sight call)
 call_grows given sight call faults none = noted_grows faults _ (use_grows sight (signature_at given.bytes given.procedures call.callee.name) call.callee _ none)
@@ -185,11 +185,11 @@ allocation_grows : (given : Given) (sight : Sight) (a : Allocation) → Grows (j
 allocation_grows given sight (allocations.NonAtomic word) faults none = none
 allocation_grows given sight (allocations.Shared cell invariant) faults none = use_grows sight (signature_at given.bytes given.invariants invariant.name) invariant faults none
 
-allocation_fits : (p : Program) (given : Given) (sight : Sight) (names : Names) (slot : ℕ) (a : Allocation) (faults : List Fault) → HasInvariants p given
+allocation_fits : (p : Program) (given : Given) (sight : Sight) (names : Names) (slot : ℕ) (a : Allocation) (faults : List Fault) → HasInvariants p.invs given
     → judged_allocation given sight a faults ≡ [] → act_fits p (allocation_of given names slot a) ≡ true
 allocation_fits p given sight names slot (allocations.NonAtomic word) faults has none = act_layer_fits p _ (Act-F.AllocNa slot) (rolls-AllocNa _) refl
 allocation_fits p given sight names slot (allocations.Shared cell invariant) faults has none =
-    act_layer_fits p _ (Act-F.AllocAt slot _ _) (rolls-AllocAt _ _ _) (instance_fits p given sight names invariant faults has none)
+    act_layer_fits p _ (Act-F.AllocAt slot _ _) (rolls-AllocAt _ _ _) (instance_fits p.invs given sight names invariant faults has none)
 
 right_grows : (given : Given) (sight : Sight) (r : RightSide) → Grows (judged_right_side given sight r)
 right_grows given sight (right_sides.Value e) faults none = number_grows sight e faults none
@@ -201,7 +201,7 @@ right_grows given sight (right_sides.CompareAndSwap word success failure start l
 right_grows given sight (right_sides.Update word how start location comma operand end along) faults none =
     noted_grows faults _ (number_grows sight location _ (number_grows sight operand _ (steps_grow sight along _ none)))
 
-right_fits : (p : Program) (given : Given) (sight : Sight) (names : Names) (slot : ℕ) (r : RightSide) (faults : List Fault) → HasInvariants p given → HasProcedures p given
+right_fits : (p : Program) (given : Given) (sight : Sight) (names : Names) (slot : ℕ) (r : RightSide) (faults : List Fault) → HasInvariants p.invs given → HasProcedures p given
     → judged_right_side given sight r faults ≡ [] → act_fits p (right_side_of given names slot r) ≡ true
 right_fits p given sight names slot (right_sides.Value e) faults invs procs none = act_layer_fits p _ (Act-F.Set slot _) (rolls-Set _ _) refl
 right_fits p given sight names slot (right_sides.Call word callee) faults invs procs none =
@@ -222,12 +222,12 @@ right_fits p given sight names slot (right_sides.Update word how start location 
 -- whatever a statement makes without faults fits
 record Running (p : Program) (given : Given) (runs : Runs) : Type 0 where
   pub grows : (in_loop : Bool) (walk : Walk) → (runs in_loop walk).walk.faults ≡ [] → walk.faults ≡ []
-  pub fits : HasInvariants p given → HasProcedures p given → (in_loop : Bool) (walk : Walk) → (runs in_loop walk).walk.faults ≡ [] → stmt_fits p (runs in_loop walk).made ≡ true
+  pub fits : HasInvariants p.invs given → HasProcedures p given → (in_loop : Bool) (walk : Walk) → (runs in_loop walk).walk.faults ≡ [] → stmt_fits p (runs in_loop walk).made ≡ true
 
 -- likewise the statements of a block
 pub record RunningInside (p : Program) (given : Given) (inside : Inside) : Type 0 where
   pub grows : (in_loop : Bool) (walk : Walk) → (inside.runs in_loop walk).walk.faults ≡ [] → walk.faults ≡ []
-  pub fits : HasInvariants p given → HasProcedures p given → (in_loop : Bool) (walk : Walk) → (inside.runs in_loop walk).walk.faults ≡ [] → list_all (stmt_fits p) (inside.runs in_loop walk).made ≡ true
+  pub fits : HasInvariants p.invs given → HasProcedures p given → (in_loop : Bool) (walk : Walk) → (inside.runs in_loop walk).walk.faults ≡ [] → list_all (stmt_fits p) (inside.runs in_loop walk).made ≡ true
 
 abbrev RunningStatement : Program → Given → Type 0
 RunningStatement p given = (s : Statement) × Running p given (statement given s)
@@ -250,15 +250,15 @@ statement_runs given x = statement_step given (map-Statement Statement Block Oth
 
 fence_grows : (p : Program) (given : Given) (what : FenceKind) (walk : Walk) → (fence given what walk).walk.faults ≡ [] → walk.faults ≡ []
 fence_grows p given (fences.Acquire word) walk none = none
-fence_grows p given (fences.Release word start held end) walk none = (assertion_fits p given held).grows in_fence walk none
+fence_grows p given (fences.Release word start held end) walk none = (assertion_fits p.invs given held).grows in_fence walk none
 
-fence_fits : (p : Program) (given : Given) (what : FenceKind) → HasInvariants p given → (walk : Walk) → (fence given what walk).walk.faults ≡ []
+fence_fits : (p : Program) (given : Given) (what : FenceKind) → HasInvariants p.invs given → (walk : Walk) → (fence given what walk).walk.faults ≡ []
     → act_fits p (fence given what walk).made ≡ true
 fence_fits p given (fences.Acquire word) invs walk none =
-    act_layer_fits p _ (Act-F.Fence _ _) (rolls-Fence _ _) (layer_fits p _ Asrt-F.Emp false rolls-Emp refl)
+    act_layer_fits p _ (Act-F.Fence _ _) (rolls-Fence _ _) (layer_fits p.invs _ Asrt-F.Emp false rolls-Emp refl)
 fence_fits p given (fences.Release word start held end) invs walk none =
     act_layer_fits p _ (Act-F.Fence _ _) (rolls-Fence _ _)
-    (and_from _ _ (fence_mode word) ((assertion_fits p given held).fits invs in_fence walk false (λ is. refl) none))
+    (and_from _ _ (fence_mode word) ((assertion_fits p.invs given held).fits invs in_fence walk false (λ is. refl) none))
 
 return_grows : (sight : Sight) (in_loop : Bool) (word : Span) (e : Option Expression) → Grows (judged_return sight in_loop word e)
 return_grows sight in_loop word None faults none = noted_grows faults _ none
@@ -314,10 +314,10 @@ statement_fits p given (Statement-F.If word start condition end then_block (Some
 }
 statement_fits p given (Statement-F.While word start condition end invariant body) = record {
   grows = λ in_loop walk none.
-      condition_grows (seen given walk) condition walk.faults ((clause_fits p given invariant).grows in_loop_invariant _ (body.1.grows true _ none));
+      condition_grows (seen given walk) condition walk.faults ((clause_fits p.invs given invariant).grows in_loop_invariant _ (body.1.grows true _ none));
   fits = λ invs procs in_loop walk none.
       act_layer_fits p _ (Act-F.While _ _ _) (rolls-While _ _ _)
-      (and_from _ _ ((clause_fits p given invariant).fits invs in_loop_invariant _ true (λ is. refl) (body.1.grows true _ none))
+      (and_from _ _ ((clause_fits p.invs given invariant).fits invs in_loop_invariant _ true (λ is. refl) (body.1.grows true _ none))
       (stmts_fit p _ (body.1.fits invs procs true _ none)));
 }
 statement_fits p given (Statement-F.Assert word start condition end semicolon) =
@@ -346,7 +346,7 @@ run_each_grows : (p : Program) (given : Given) (parts : List (RunningStatement p
 run_each_grows p given [] in_loop walk none = none
 run_each_grows p given (part ∷ parts) in_loop walk none = part.1.grows in_loop walk (run_each_grows p given parts in_loop _ none)
 
-run_each_fits : (p : Program) (given : Given) → HasInvariants p given → HasProcedures p given → (parts : List (RunningStatement p given)) (in_loop : Bool) (walk : Walk)
+run_each_fits : (p : Program) (given : Given) → HasInvariants p.invs given → HasProcedures p given → (parts : List (RunningStatement p given)) (in_loop : Bool) (walk : Walk)
     → (run_each (map (statement given) (map (λ part. part.0) parts)) in_loop walk).walk.faults ≡ []
     → list_all (stmt_fits p) (run_each (map (statement given) (map (λ part. part.0) parts)) in_loop walk).made ≡ true
 run_each_fits p given invs procs [] in_loop walk none = refl

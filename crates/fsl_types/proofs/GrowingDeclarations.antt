@@ -3,7 +3,7 @@
 use Rattle.std.proofs.Common.{◌≡◌, ℕ, suc, ◌+◌, ◌<◌, false, List, [], ◌∷◌, length, nat_le, is_some, Option, refl, ap, arith, leb-false, lt-ltb}
 use Rattle.std.proofs.lemmas.Bool.{cond-true}
 use Rattle.std.proofs.lemmas.List.{length-map}
-use Rattle.fsl_core.specs.declared.program.Program.{Program}
+use Rattle.fsl_core.specs.Programs.{Program}
 use Rattle.fsl_tree.specs.declared.declaration.Declaration.{Declaration}
 use Rattle.fsl_tree.specs.declared.declaration.Declaration.TheVariants as declarations
 use Rattle.fsl_tree.specs.declared.declaration.Invariant.{Invariant}
@@ -61,7 +61,7 @@ known_slots given ps faults none =
 pub parts_grow : (p : Program) (given : Given) (before : ℕ) (ps : List Part) (walk : Walk) → (parts given before ps walk).walk.faults ≡ [] → walk.faults ≡ []
 parts_grow p given before [] walk none = none
 parts_grow p given before (q ∷ qs) walk none =
-    noted_grows walk.faults _ ((assertion_fits p given q.assertion).grows in_invariant _ (parts_grow p given (one_more 8 before) qs _ none))
+    noted_grows walk.faults _ ((assertion_fits p.invs given q.assertion).grows in_invariant _ (parts_grow p given (one_more 8 before) qs _ none))
 
 pub parts_long : (given : Given) (before : ℕ) (ps : List Part) (walk : Walk) → length (parts given before ps walk).made ≡ length ps
 parts_long given before [] walk = refl
@@ -81,11 +81,11 @@ contract_known p given q faults none = (a_block_fits p given q.body).grows false
 
 pub pre_known : (p : Program) (given : Given) (q : Procedure) (faults : List Fault) → (procedure given q faults).walk.faults ≡ []
     → (clause given q.requires_clause in_requires (known given q.parameters faults)).walk.faults ≡ []
-pre_known p given q faults none = (clause_fits p given q.ensures_clause).grows in_ensures _ (contract_known p given q faults none)
+pre_known p given q faults none = (clause_fits p.invs given q.ensures_clause).grows in_ensures _ (contract_known p given q faults none)
 
 pub procedure_known : (p : Program) (given : Given) (q : Procedure) (faults : List Fault) → (procedure given q faults).walk.faults ≡ []
     → (known given q.parameters faults).faults ≡ []
-procedure_known p given q faults none = (clause_fits p given q.requires_clause).grows in_requires _ (pre_known p given q faults none)
+procedure_known p given q faults none = (clause_fits p.invs given q.requires_clause).grows in_requires _ (pre_known p given q faults none)
 
 -- ---- files
 

@@ -7,9 +7,9 @@ use Rattle.std.specs.Str.{bytes_eq, is_utf8}
 use Rattle.fsl_core.specs.declared.assertion.Asrt.TheFolds.{fold-roll-Asrt}
 use Rattle.fsl_core.specs.declared.assertion.Asrt.TheOpen.{Asrt-F}
 use Rattle.fsl_core.specs.declared.assertion.Asrt.TheVariants.{rolls-Emp}
-use Rattle.fsl_core.specs.declared.program.Inv.{Inv}
-use Rattle.fsl_core.specs.declared.program.Proc.{Proc}
-use Rattle.fsl_core.specs.declared.program.Program.{Program}
+use Rattle.fsl_core.specs.declared.declaration.Inv.{Inv}
+use Rattle.fsl_core.specs.declared.declaration.Proc.{Proc}
+use Rattle.fsl_core.specs.Programs.{Program}
 use Rattle.fsl_core.specs.Straight.{emp_step, is_emp}
 use Rattle.fsl_core.specs.WellFormed.{asrt_fits}
 use Rattle.fsl_tree.specs.declared.declaration.Clause.{Clause}
@@ -146,14 +146,14 @@ no_clause given (Some c) walk is = absurd (true≢false (sym is))
 no_modality : (modal may flag : Bool) → modal ≡ false → modal ≡ true → may ≡ flag
 no_modality modal may flag none is = absurd (true≢false (sym is ∙ none))
 
-contract_plain : (p : Program) (given : Given) (q : Procedure) (faults : List Fault) → HasInvariants p given → (procedure given q faults).walk.faults ≡ []
+contract_plain : (p : Program) (given : Given) (q : Procedure) (faults : List Fault) → HasInvariants p.invs given → (procedure given q faults).walk.faults ≡ []
     → (has_modality q.requires_clause || has_modality q.ensures_clause) ≡ false
-    → (asrt_fits p (procedure given q faults).made.pre false && asrt_fits p (procedure given q faults).made.post false) ≡ true
+    → (asrt_fits p.invs (procedure given q faults).made.pre false && asrt_fits p.invs (procedure given q faults).made.post false) ≡ true
 contract_plain p given q faults invs none plain =
     let neither = or_parts (has_modality q.requires_clause) (has_modality q.ensures_clause) plain in
     and_from _ _
-    ((clause_fits p given q.requires_clause).fits invs in_requires _ false (no_modality _ _ _ neither.0) (pre_known p given q faults none))
-    ((clause_fits p given q.ensures_clause).fits invs in_ensures _ false (no_modality _ _ _ neither.1) (contract_known p given q faults none))
+    ((clause_fits p.invs given q.requires_clause).fits invs in_requires _ false (no_modality _ _ _ neither.0) (pre_known p given q faults none))
+    ((clause_fits p.invs given q.ensures_clause).fits invs in_ensures _ false (no_modality _ _ _ neither.1) (contract_known p given q faults none))
 
 procedure_bare : (p : Program) (given : Given) (q : Procedure) (faults : List Fault) → (procedure given q faults).walk.faults ≡ []
     → (is_none q.parameters && is_none q.requires_clause) ≡ true
@@ -163,7 +163,7 @@ procedure_bare p given q faults none bare =
     let few : length (banks_among q.parameters) ≡ 0 = ap (λ ps. length (banks_among ps)) (absent q.parameters both.0) in
     and_from _ _ (eq-eqb _ 0 (known_slots given q.parameters faults (procedure_known p given q faults none) ∙ few)) (no_clause given q.requires_clause _ both.1)
 
-procedure_made : (p : Program) (given : Given) (q : Procedure) (faults : List Fault) (procs : List Proc) (count : ℕ) (name : List ℕ) → HasInvariants p given
+procedure_made : (p : Program) (given : Given) (q : Procedure) (faults : List Fault) (procs : List Proc) (count : ℕ) (name : List ℕ) → HasInvariants p.invs given
     → count ≡ length procs → (procedure given q faults).walk.faults ≡ [] → bytes_eq name (text_at given.bytes q.name) ≡ true
     → IsProcedure p (procs ++ (procedure given q faults).made ∷ []) name (procedure_signature count q)
 procedure_made p given q faults procs count name invs many none same = record {
@@ -175,7 +175,7 @@ procedure_made p given q faults procs count name invs many none same = record {
   bare = procedure_bare p given q faults none;
 }
 
-procedure_listed : (p : Program) (given : Given) → HasInvariants p given → (d : Declaration) (listing : Listing) (so_far : Resolved)
+procedure_listed : (p : Program) (given : Given) → HasInvariants p.invs given → (d : Declaration) (listing : Listing) (so_far : Resolved)
     → ProceduresStand p listing so_far → (listed_procedure given.bytes d listing).faults ≡ [] → (declaration given d so_far).faults ≡ []
     → ProceduresStand p (listed_procedure given.bytes d listing) (declaration given d so_far)
 procedure_listed p given invs (declarations.Invariant i) listing so_far stand listed none = record { many = stand.many; each = stand.each }
@@ -191,7 +191,7 @@ procedure_listed p given invs (declarations.Procedure q) listing so_far stand li
           (found_either name (text_at given.bytes q.name) (procedure_signature listing.count q) s listing.names is);
     }
 
-pub procedures_stand : (p : Program) (given : Given) → HasInvariants p given → (ds : List Declaration) (listing : Listing) (so_far : Resolved)
+pub procedures_stand : (p : Program) (given : Given) → HasInvariants p.invs given → (ds : List Declaration) (listing : Listing) (so_far : Resolved)
     → ProceduresStand p listing so_far → (list_each (listed_procedure given.bytes) ds listing).faults ≡ [] → (declare_each given ds so_far).faults ≡ []
     → ProceduresStand p (list_each (listed_procedure given.bytes) ds listing) (declare_each given ds so_far)
 procedures_stand p given invs [] listing so_far stand listed none = stand
