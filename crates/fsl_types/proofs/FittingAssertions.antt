@@ -58,7 +58,7 @@ pub record IsInvariant (invs : List Inv) (s : Signature) : Type 0 where
 abbrev pub HasInvariants : List Inv → Given → Type 0
 HasInvariants invs given = (name : List ℕ) (s : Signature) → found name given.invariants ≡ Some s → IsInvariant invs s
 
--- as many arguments as parameters
+-- there are as many arguments as parameters where the tree has as many
 pub equal_numbers : (a b c d : ℕ) → not (a == b) ≡ false → c ≡ b → d ≡ a → (c == d) ≡ true
 equal_numbers a b c d fit params args = eq-eqb c d (params ∙ sym (eqb-true a b (not-false (a == b) fit)) ∙ sym args)
 
@@ -99,17 +99,12 @@ pub layer_fits : (invs : List Inv) (a : Asrt) (layer : Asrt-F Asrt) (flag : Bool
 layer_fits invs a layer flag is fit =
     subst (λ (x : Asrt). asrt_fits invs x flag ≡ true) is (ap (λ (t : Test). t flag) (fold-roll-Asrt Test (asrt_step invs) layer) ∙ fit)
 
--- whatever is read without faults fits, where a modality may stand if there is one
+-- Whatever is read without faults fits. Whether modalities may stand where it is used counts only if it has one, and is
+-- then what the setting says.
 pub record Fitting (invs : List Inv) (given : Given) (modal : Bool) (reads : Reads) : Type 0 where
   pub grows : (setting : Setting) (walk : Walk) → (reads setting walk).walk.faults ≡ [] → walk.faults ≡ []
   pub fits : HasInvariants invs given → (setting : Setting) (walk : Walk) (flag : Bool) → (modal ≡ true → setting.modal ≡ flag)
       → (reads setting walk).walk.faults ≡ [] → asrt_fits invs (reads setting walk).made flag ≡ true
-
-pub apart_fits : (invs : List Inv) (given : Given) (modal : Bool) (reads : Reads) → Fitting invs given modal reads → Fitting invs given modal (apart reads)
-apart_fits invs given modal reads fit = record {
-  grows = λ setting walk none. fit.grows setting walk none;
-  fits = λ has setting walk flag may none. fit.fits has setting walk flag may none;
-}
 
 -- a part that uses no invariant and holds no other
 plain : (invs : List Inv) (given : Given) (reads : Reads) → ((setting : Setting) (walk : Walk) → (reads setting walk).walk.faults ≡ [] → walk.faults ≡ [])
@@ -229,30 +224,30 @@ modality_fits invs given modal reads word make holds inside = record {
       holds _ flag (and_from flag _ (sym (may refl) ∙ allowed) (inside.fits has (unmodal setting) _ false (λ is. refl) none));
 }
 
-atom_fits : (invs : List Inv) (given : Given) (y : AtomParts invs given)
+atom_layer_fits : (invs : List Inv) (given : Given) (y : AtomParts invs given)
     → Fitting invs given (atom_modal (bare_atom invs given y)) (atom_reads given (bare_atom invs given y))
-atom_fits invs given (Atom-F.Empty word) = plain invs given _ (λ setting walk none. none) (λ setting walk flag. layer_fits invs _ Asrt-F.Emp flag rolls-Emp refl)
-atom_fits invs given (Atom-F.Choice word start condition end first_start first first_end otherwise second_start second second_end) =
+atom_layer_fits invs given (Atom-F.Empty word) = plain invs given _ (λ setting walk none. none) (λ setting walk flag. layer_fits invs _ Asrt-F.Emp flag rolls-Emp refl)
+atom_layer_fits invs given (Atom-F.Choice word start condition end first_start first first_end otherwise second_start second second_end) =
     choice_fits invs given condition _ _ _ _ first.1 second.1
-atom_fits invs given (Atom-F.Up word start inside end) =
+atom_layer_fits invs given (Atom-F.Up word start inside end) =
     modality_fits invs given _ _ word asrt.Up (λ a flag fit. layer_fits invs _ (Asrt-F.Up a) flag (rolls-Up a) fit) inside.1
-atom_fits invs given (Atom-F.Down word start inside end) =
+atom_layer_fits invs given (Atom-F.Down word start inside end) =
     modality_fits invs given _ _ word asrt.Down (λ a flag fit. layer_fits invs _ (Asrt-F.Down a) flag (rolls-Down a) fit) inside.1
-atom_fits invs given (Atom-F.Init word start location end) =
+atom_layer_fits invs given (Atom-F.Init word start location end) =
     plain invs given _ (λ setting walk none. number_grows (sight given setting.in_ensures walk) location walk.faults none) (λ setting walk flag. layer_fits invs _ (Asrt-F.Init _) flag (rolls-Init _) refl)
-atom_fits invs given (Atom-F.Rel word start location comma invariant end) = record {
+atom_layer_fits invs given (Atom-F.Rel word start location comma invariant end) = record {
   grows = λ setting walk none. permission_grows (sight given setting.in_ensures walk) given.invariants location invariant walk.faults none;
   fits = λ has setting walk flag may none.
       layer_fits invs _ (Asrt-F.Rel _ _) flag (rolls-Rel _ _)
       (permission_fits invs given (sight given setting.in_ensures walk) walk.names location invariant walk.faults has none refl);
 }
-atom_fits invs given (Atom-F.RmwAcq word start location comma invariant end) = record {
+atom_layer_fits invs given (Atom-F.RmwAcq word start location comma invariant end) = record {
   grows = λ setting walk none. permission_grows (sight given setting.in_ensures walk) given.invariants location invariant walk.faults none;
   fits = λ has setting walk flag may none.
       layer_fits invs _ (Asrt-F.RmwAcq _ _) flag (rolls-RmwAcq _ _)
       (permission_fits invs given (sight given setting.in_ensures walk) walk.names location invariant walk.faults has none refl);
 }
-atom_fits invs given (Atom-F.Acq word start location use_comma invariant part_comma part value set_comma set_start excluded set_end end) = record {
+atom_layer_fits invs given (Atom-F.Acq word start location use_comma invariant part_comma part value set_comma set_start excluded set_end end) = record {
   grows = λ setting walk none.
       let seen = sight given setting.in_ensures walk in
       permission_grows seen given.invariants location invariant walk.faults
@@ -267,17 +262,17 @@ atom_fits invs given (Atom-F.Acq word start location use_comma invariant part_co
       (λ s is. has (text_at given.bytes invariant.name) s is)
       (use_keeps seen (signature_at given.bytes given.invariants invariant.name) invariant _ permitted) (noted_keeps _ _ numbered)));
 }
-atom_fits invs given (Atom-F.Bank word start bank comma amount end) =
+atom_layer_fits invs given (Atom-F.Bank word start bank comma amount end) =
     plain invs given _ (λ setting walk none. noted_grows walk.faults _ (number_grows (sight given setting.in_ensures walk) amount _ none))
     (λ setting walk flag. tokens_fit invs given walk word bank amount flag)
-atom_fits invs given (Atom-F.Related left how) = relation_fits invs given left how
-atom_fits invs given (Atom-F.Predicate predicate) = plain invs given _ (λ setting walk none. none) (λ setting walk flag. layer_fits invs _ Asrt-F.Emp flag rolls-Emp refl)
+atom_layer_fits invs given (Atom-F.Related left how) = relation_fits invs given left how
+atom_layer_fits invs given (Atom-F.Predicate predicate) = plain invs given _ (λ setting walk none. none) (λ setting walk flag. layer_fits invs _ Asrt-F.Emp flag rolls-Emp refl)
 
 atom_rolled : (invs : List Inv) (given : Given) (x : Atom-F Atom Assertion Conjunct) (y : AtomParts invs given) → bare_atom invs given y ≡ x
     → Fitting invs given (is_modal_atom (roll-Atom x)) (atom given (roll-Atom x))
 atom_rolled invs given x y is =
     let layer : Fitting invs given (atom_modal x) (atom_reads given x) =
-    subst (λ (l : Atom-F Atom Assertion Conjunct). Fitting invs given (atom_modal l) (atom_reads given l)) is (atom_fits invs given y) in
+    subst (λ (l : Atom-F Atom Assertion Conjunct). Fitting invs given (atom_modal l) (atom_reads given l)) is (atom_layer_fits invs given y) in
     subst₂ (Fitting invs given) (sym (fold-roll-Atom Bool Bool Bool modal_step modal_assertion_step modal_conjunct_step x))
     (sym (fold-roll-Atom Reads Reads Reads (atom_step given) assertion_step conjunct_step x)) layer
 

@@ -1,4 +1,5 @@
--- The program of a tree without faults is well formed.
+-- The program of a tree without faults is well formed: its invariants and procedures fit, and one of these is a `main`
+-- without parameters and `requires`.
 use Rattle.std.proofs.Common.{◌≡◌, ℕ, zero, suc, Bool, true, false, true≢false, IsTrue, List, [], ◌∷◌, ◌++◌, codes, slice_get, nat_lt, Option, Some, None, refl, ap, sym, ◌∙◌, arith}
 use Rattle.std.proofs.lemmas.Bool.{and_from, and_parts, ltb-true, not-false, or_left, or_right}
 use Rattle.std.proofs.lemmas.List.Folds.{list_all-append}
@@ -24,7 +25,7 @@ use Rattle.fsl_types.specs.Names.{found}
 use Rattle.fsl_types.specs.Programs.{all_listed, declaration, declare_each, end_of, faults_of, given_by, has_main, in_ensures, in_invariant, in_requires, invariant, invariants_of, is_bare, listed_procedure, nothing_listed, nothing_resolved, parts, procedure, program_of, resolved}
 use Rattle.fsl_types.specs.Walks.{one_more}
 use Rattle.fsl_types.proofs.FittingAssertions.{HasInvariants, assertion_fits, clause_fits}
-use Rattle.fsl_types.proofs.FittingStatements.{HasProcedures, IsProcedure, a_block_fits}
+use Rattle.fsl_types.proofs.FittingStatements.{HasProcedures, IsProcedure, block_fits}
 use Rattle.fsl_types.proofs.Growing.{noted_grows, noted_keeps}
 use Rattle.fsl_types.proofs.GrowingDeclarations.{contract_known, declare_each_grows, list_each_grows, listed_procedure_grows, parts_grow, pre_known}
 use Rattle.fsl_types.proofs.NamedDeclarations.{invariants_stand, procedures_stand}
@@ -44,7 +45,7 @@ procedure_fits : (p : Program) (given : Given) → HasInvariants p.invs given �
 procedure_fits p given invs procs q faults none =
     and_from _ _ ((clause_fits p.invs given q.requires_clause).fits invs in_requires _ true (λ is. refl) (pre_known p given q faults none))
     (and_from _ _ ((clause_fits p.invs given q.ensures_clause).fits invs in_ensures _ true (λ is. refl) (contract_known p given q faults none))
-    ((a_block_fits p given q.body).fits invs procs false _ none))
+    ((block_fits p given q.body).fits invs procs false _ none))
 
 one_more_fits : {X : Type 0} (test : X → Bool) (xs : List X) (x : X) → list_all test xs ≡ true → test x ≡ true → list_all test (xs ++ x ∷ []) ≡ true
 one_more_fits test xs x all one = list_all-append test xs (x ∷ []) ∙ and_from _ _ all (and_from _ _ one refl)

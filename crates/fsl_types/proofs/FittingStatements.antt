@@ -80,10 +80,10 @@ proc_found p name place arguments args (Some s) knows long keeps =
     ap (proc_takes args) is.at
     ∙ equal_numbers (length (arguments_of arguments)) (length s.banks) is.proc.params (length args) keeps.fitting is.params long
 
-a_call_fits : (p : Program) (given : Given) (sight : Sight) (names : Names) (u : Use) (faults : List Fault) → HasProcedures p given
+callee_fits : (p : Program) (given : Given) (sight : Sight) (names : Names) (u : Use) (faults : List Fault) → HasProcedures p given
     → judged_use sight (signature_at given.bytes given.procedures u.name) u faults ≡ []
     → call_fits p (number_of (signature_at given.bytes given.procedures u.name)) (numbered_arguments given.bytes names u.arguments) ≡ true
-a_call_fits p given sight names u faults has none =
+callee_fits p given sight names u faults has none =
     proc_found p (text_at given.bytes u.name) u.name u.arguments (numbered_arguments given.bytes names u.arguments) (signature_at given.bytes given.procedures u.name)
     (λ s is. has (text_at given.bytes u.name) s is) (length-map (arguments_of u.arguments) _)
     (use_keeps sight (signature_at given.bytes given.procedures u.name) u faults none)
@@ -97,11 +97,11 @@ plain_found p name used arguments place (Some s) knows keeps child = let is = kn
 call_grows : (given : Given) (sight : Sight) (call : ParallelCall) → Grows (judged_call given sight call)
 call_grows given sight call faults none = noted_grows faults _ (use_grows sight (signature_at given.bytes given.procedures call.callee.name) call.callee _ none)
 
-a_child_fits : (p : Program) (given : Given) (sight : Sight) (names : Names) (call : ParallelCall) (faults : List Fault) → HasProcedures p given
+called_fits : (p : Program) (given : Given) (sight : Sight) (names : Names) (call : ParallelCall) (faults : List Fault) → HasProcedures p given
     → judged_call given sight call faults ≡ [] → child_fits p (called given names call) ≡ true
-a_child_fits p given sight names call faults has none =
+called_fits p given sight names call faults has none =
     let o = signature_at given.bytes given.procedures call.callee.name in
-    and_from _ _ (a_call_fits p given sight names call.callee _ has none)
+    and_from _ _ (callee_fits p given sight names call.callee _ has none)
     (plain_found p (text_at given.bytes call.callee.name) call.callee.name call.callee.arguments call.callee.name o (λ s is. has (text_at given.bytes call.callee.name) s is)
     (use_keeps sight o call.callee _ none) (noted_keeps _ faults (use_grows sight o call.callee _ none)))
 
@@ -109,7 +109,7 @@ children_fit : (p : Program) (given : Given) (sight : Sight) (names : Names) (ca
     → in_turn (map (judged_call given sight) calls) faults ≡ [] → list_all (child_fits p) (map (called given names) calls) ≡ true
 children_fit p given sight names [] faults has none = refl
 children_fit p given sight names (call ∷ calls) faults has none =
-    and_from _ _ (a_child_fits p given sight names call faults has (each_grows (judged_call given sight) (call_grows given sight) calls _ none))
+    and_from _ _ (called_fits p given sight names call faults has (each_grows (judged_call given sight) (call_grows given sight) calls _ none))
     (children_fit p given sight names calls _ has none)
 
 -- ---- modes
@@ -205,7 +205,7 @@ right_fits : (p : Program) (given : Given) (sight : Sight) (names : Names) (slot
     → judged_right_side given sight r faults ≡ [] → act_fits p (right_side_of given names slot r) ≡ true
 right_fits p given sight names slot (right_sides.Value e) faults invs procs none = act_layer_fits p _ (Act-F.Set slot _) (rolls-Set _ _) refl
 right_fits p given sight names slot (right_sides.Call word callee) faults invs procs none =
-    act_layer_fits p _ (Act-F.Call (Some slot) _ _) (rolls-Call _ _ _) (a_call_fits p given sight names callee faults procs none)
+    act_layer_fits p _ (Act-F.Call (Some slot) _ _) (rolls-Call _ _ _) (callee_fits p given sight names callee faults procs none)
 right_fits p given sight names slot (right_sides.Allocate word what) faults invs procs none = allocation_fits p given sight names slot what faults invs none
 right_fits p given sight names slot (right_sides.Load word how start location end) faults invs procs none =
     act_layer_fits p _ (Act-F.Load slot (mode_of how) _) (rolls-Load _ _ _) (load_mode how (mode_keeps accesses.Load how faults (number_grows sight location _ none)))
@@ -269,50 +269,50 @@ plain : (p : Program) (given : Given) (runs : Runs) → ((in_loop : Bool) (walk 
     → ((in_loop : Bool) (walk : Walk) → stmt_fits p (runs in_loop walk).made ≡ true) → Running p given runs
 plain p given runs grow fit = record { grows = grow; fits = λ invs procs in_loop walk none. fit in_loop walk }
 
-statement_fits : (p : Program) (given : Given) (y : StatementParts p given)
+statement_layer_fits : (p : Program) (given : Given) (y : StatementParts p given)
     → Running p given (statement_runs given (bare_statement p given y))
 unfolding folded_stmt
-statement_fits p given (Statement-F.Let word name equals right semicolon) = record {
+statement_layer_fits p given (Statement-F.Let word name equals right semicolon) = record {
   grows = λ in_loop walk none. right_grows given (seen given walk) right walk.faults (noted_grows _ _ none);
   fits = λ invs procs in_loop walk none. right_fits p given (seen given walk) walk.names walk.slots right walk.faults invs procs (noted_grows _ _ none);
 }
-statement_fits p given (Statement-F.Assign name equals right semicolon) = record {
+statement_layer_fits p given (Statement-F.Assign name equals right semicolon) = record {
   grows = λ in_loop walk none. noted_grows walk.faults _ (right_grows given (seen given walk) right _ none);
   fits = λ invs procs in_loop walk none. right_fits p given (seen given walk) walk.names _ right _ invs procs none;
 }
-statement_fits p given (Statement-F.Store word how start location comma stored end semicolon) = record {
+statement_layer_fits p given (Statement-F.Store word how start location comma stored end semicolon) = record {
   grows = λ in_loop walk none. noted_grows walk.faults _ (number_grows (seen given walk) location _ (number_grows (seen given walk) stored _ none));
   fits = λ invs procs in_loop walk none.
       act_layer_fits p _ (Act-F.Store (mode_of how) _ _) (rolls-Store _ _ _)
       (store_mode how (mode_keeps accesses.Store how walk.faults (number_grows (seen given walk) location _ (number_grows (seen given walk) stored _ none))));
 }
-statement_fits p given (Statement-F.Call word callee semicolon) = record {
+statement_layer_fits p given (Statement-F.Call word callee semicolon) = record {
   grows = λ in_loop walk none. use_grows (seen given walk) (signature_at given.bytes given.procedures callee.name) callee walk.faults none;
   fits = λ invs procs in_loop walk none.
-      act_layer_fits p _ (Act-F.Call None _ _) (rolls-Call _ _ _) (a_call_fits p given (seen given walk) walk.names callee walk.faults procs none);
+      act_layer_fits p _ (Act-F.Call None _ _) (rolls-Call _ _ _) (callee_fits p given (seen given walk) walk.names callee walk.faults procs none);
 }
-statement_fits p given (Statement-F.Parallel word start calls end) = record {
+statement_layer_fits p given (Statement-F.Parallel word start calls end) = record {
   grows = λ in_loop walk none.
       noted_grows walk.faults _ (each_grows (judged_call given (seen given walk)) (call_grows given (seen given walk)) calls _ none);
   fits = λ invs procs in_loop walk none.
       act_layer_fits p _ (Act-F.Par _) (rolls-Par _) (children_fit p given (seen given walk) walk.names calls _ procs none);
 }
-statement_fits p given (Statement-F.Fence word what semicolon) = record {
+statement_layer_fits p given (Statement-F.Fence word what semicolon) = record {
   grows = λ in_loop walk none. fence_grows p given what walk none;
   fits = λ invs procs in_loop walk none. fence_fits p given what invs walk none;
 }
-statement_fits p given (Statement-F.If word start condition end then_block None) = record {
+statement_layer_fits p given (Statement-F.If word start condition end then_block None) = record {
   grows = λ in_loop walk none. condition_grows (seen given walk) condition walk.faults (then_block.1.grows in_loop _ none);
   fits = λ invs procs in_loop walk none.
       act_layer_fits p _ (Act-F.If _ _ _) (rolls-If _ _ _) (and_from _ _ (stmts_fit p _ (then_block.1.fits invs procs in_loop _ none)) refl);
 }
-statement_fits p given (Statement-F.If word start condition end then_block (Some other)) = record {
+statement_layer_fits p given (Statement-F.If word start condition end then_block (Some other)) = record {
   grows = λ in_loop walk none. condition_grows (seen given walk) condition walk.faults (then_block.1.grows in_loop _ (other.1.grows in_loop _ none));
   fits = λ invs procs in_loop walk none.
       act_layer_fits p _ (Act-F.If _ _ _) (rolls-If _ _ _)
       (and_from _ _ (stmts_fit p _ (then_block.1.fits invs procs in_loop _ (other.1.grows in_loop _ none))) (stmts_fit p _ (other.1.fits invs procs in_loop _ none)));
 }
-statement_fits p given (Statement-F.While word start condition end invariant body) = record {
+statement_layer_fits p given (Statement-F.While word start condition end invariant body) = record {
   grows = λ in_loop walk none.
       condition_grows (seen given walk) condition walk.faults ((clause_fits p.invs given invariant).grows in_loop_invariant _ (body.1.grows true _ none));
   fits = λ invs procs in_loop walk none.
@@ -320,24 +320,24 @@ statement_fits p given (Statement-F.While word start condition end invariant bod
       (and_from _ _ ((clause_fits p.invs given invariant).fits invs in_loop_invariant _ true (λ is. refl) (body.1.grows true _ none))
       (stmts_fit p _ (body.1.fits invs procs true _ none)));
 }
-statement_fits p given (Statement-F.Assert word start condition end semicolon) =
+statement_layer_fits p given (Statement-F.Assert word start condition end semicolon) =
     plain p given _ (λ in_loop walk none. condition_grows (seen given walk) condition walk.faults none) (λ in_loop walk. act_layer_fits p _ (Act-F.Assert _) (rolls-Assert _) refl)
-statement_fits p given (Statement-F.Print word start printed end semicolon) =
+statement_layer_fits p given (Statement-F.Print word start printed end semicolon) =
     plain p given _ (λ in_loop walk none. number_grows (seen given walk) printed walk.faults none) (λ in_loop walk. act_layer_fits p _ (Act-F.Print _) (rolls-Print _) refl)
-statement_fits p given (Statement-F.Free word start location end semicolon) =
+statement_layer_fits p given (Statement-F.Free word start location end semicolon) =
     plain p given _ (λ in_loop walk none. number_grows (seen given walk) location walk.faults none) (λ in_loop walk. act_layer_fits p _ (Act-F.Free _) (rolls-Free _) refl)
-statement_fits p given (Statement-F.Return word e semicolon) =
+statement_layer_fits p given (Statement-F.Return word e semicolon) =
     plain p given _ (λ in_loop walk none. return_grows (seen given walk) in_loop word e walk.faults none) (λ in_loop walk. act_layer_fits p _ (Act-F.Return _) (rolls-Return _) refl)
-statement_fits p given (Statement-F.Bank word name semicolon) =
+statement_layer_fits p given (Statement-F.Bank word name semicolon) =
     plain p given _ (λ in_loop walk none. noted_grows walk.faults _ none) (λ in_loop walk. act_layer_fits p _ (Act-F.Bank _) (rolls-Bank _) refl)
-statement_fits p given (Statement-F.Step timed semicolon) =
+statement_layer_fits p given (Statement-F.Step timed semicolon) =
     plain p given _ (λ in_loop walk none. step_grows (seen given walk) timed walk.faults none) (λ in_loop walk. act_layer_fits p _ (Act-F.Step _) (rolls-Step _) refl)
 
 statement_rolled : (p : Program) (given : Given)
     (x : Statement-F Statement Block Otherwise) (y : StatementParts p given) → bare_statement p given y ≡ x → Running p given (statement given (roll-Statement x))
 statement_rolled p given x y is =
     subst (Running p given) (sym (fold-roll-Statement Runs Inside Inside (statement_step given) block_step otherwise_step x))
-    (subst (λ (l : Statement-F Statement Block Otherwise). Running p given (statement_runs given l)) is (statement_fits p given y))
+    (subst (λ (l : Statement-F Statement Block Otherwise). Running p given (statement_runs given l)) is (statement_layer_fits p given y))
 
 -- ---- blocks
 
@@ -363,8 +363,8 @@ bare_block p given y =
 abbrev block_runs : Given → Block-F Statement Block Otherwise → Inside
 block_runs given x = block_step (map-Block Statement Block Otherwise Runs Inside Inside (statement given) (block given) (otherwise given) x)
 
-block_fits : (p : Program) (given : Given) (y : BlockParts p given) → RunningInside p given (block_runs given (bare_block p given y))
-block_fits p given y = record {
+block_layer_fits : (p : Program) (given : Given) (y : BlockParts p given) → RunningInside p given (block_runs given (bare_block p given y))
+block_layer_fits p given y = record {
   grows = λ in_loop walk none. run_each_grows p given y.statements in_loop walk none;
   fits = λ invs procs in_loop walk none. run_each_fits p given invs procs y.statements in_loop walk none;
 }
@@ -373,7 +373,7 @@ block_rolled : (p : Program) (given : Given) (x : Block-F Statement Block Otherw
     → RunningInside p given (block given (roll-Block x))
 block_rolled p given x y is =
     subst (RunningInside p given) (sym (fold-roll-Block Runs Inside Inside (statement_step given) block_step otherwise_step x))
-    (subst (λ (l : Block-F Statement Block Otherwise). RunningInside p given (block_runs given l)) is (block_fits p given y))
+    (subst (λ (l : Block-F Statement Block Otherwise). RunningInside p given (block_runs given l)) is (block_layer_fits p given y))
 
 abbrev OtherwiseParts : Program → Given → Type 0
 OtherwiseParts p given = Otherwise-F (RunningStatement p given) (RunningBlock p given) (RunningOtherwise p given)
@@ -388,7 +388,7 @@ otherwise_rolled p given x y is =
     subst (RunningInside p given) (sym (fold-roll-Otherwise Runs Inside Inside (statement_step given) block_step otherwise_step x))
     (subst (λ (l : Otherwise-F Statement Block Otherwise). RunningInside p given (block given l.block)) is y.block.1)
 
-pub a_block_fits : (p : Program) (given : Given) (b : Block) → RunningInside p given (block given b)
-a_block_fits p given = ind-Block
+pub block_fits : (p : Program) (given : Given) (b : Block) → RunningInside p given (block given b)
+block_fits p given = ind-Block
     (λ (s : Statement). Running p given (statement given s)) (λ (b : Block). RunningInside p given (block given b)) (λ (o : Otherwise). RunningInside p given (otherwise given o))
     (statement_rolled p given) (block_rolled p given) (otherwise_rolled p given)

@@ -101,18 +101,18 @@ bare_factor sight wanted y = map-Factor (Growing Factor (judged_factor sight wan
 abbrev factor_layer : Sight → Due → Factor-F Factor Addend Expression Multiplier Term → Judged
 factor_layer sight wanted x = factor_judged sight wanted (map-Factor Factor Addend Expression Multiplier Term Judged Judged Judged Judged Judged (judged_factor sight wanted) (judged_addend sight wanted) (judged_expression sight wanted) (judged_multiplier sight wanted) (judged_term sight wanted) x)
 
-factor_grows : (sight : Sight) (wanted : Due) (y : FactorParts sight wanted) → Grows (factor_layer sight wanted (bare_factor sight wanted y))
-factor_grows sight wanted (Factor-F.Number place value) faults e = e
-factor_grows sight wanted (Factor-F.Name place) faults e = noted_grows faults _ e
-factor_grows sight wanted (Factor-F.Outcome place) faults e = noted_grows faults _ e
-factor_grows sight wanted (Factor-F.Negative minus factor) faults e = factor.1 faults e
-factor_grows sight wanted (Factor-F.Group start inside end) faults e = inside.1 faults e
+factor_layer_grows : (sight : Sight) (wanted : Due) (y : FactorParts sight wanted) → Grows (factor_layer sight wanted (bare_factor sight wanted y))
+factor_layer_grows sight wanted (Factor-F.Number place value) faults e = e
+factor_layer_grows sight wanted (Factor-F.Name place) faults e = noted_grows faults _ e
+factor_layer_grows sight wanted (Factor-F.Outcome place) faults e = noted_grows faults _ e
+factor_layer_grows sight wanted (Factor-F.Negative minus factor) faults e = factor.1 faults e
+factor_layer_grows sight wanted (Factor-F.Group start inside end) faults e = inside.1 faults e
 
 factor_rolled : (sight : Sight) (wanted : Due) (x : Factor-F Factor Addend Expression Multiplier Term) (y : FactorParts sight wanted) → bare_factor sight wanted y ≡ x
     → Grows (judged_factor sight wanted (roll-Factor x))
 factor_rolled sight wanted x y is =
     subst Grows (sym (fold-roll-Factor Judged Judged Judged Judged Judged (factor_judged sight wanted) addend_judged expression_judged multiplier_judged term_judged x))
-    (subst (λ (l : Factor-F Factor Addend Expression Multiplier Term). Grows (factor_layer sight wanted l)) is (factor_grows sight wanted y))
+    (subst (λ (l : Factor-F Factor Addend Expression Multiplier Term). Grows (factor_layer sight wanted l)) is (factor_layer_grows sight wanted y))
 
 abbrev AddendParts : Sight → Due → Type 0
 AddendParts sight wanted = Addend-F (Growing Factor (judged_factor sight wanted)) (Growing Addend (judged_addend sight wanted)) (Growing Expression (judged_expression sight wanted)) (Growing Multiplier (judged_multiplier sight wanted)) (Growing Term (judged_term sight wanted))
@@ -124,14 +124,14 @@ bare_addend sight wanted y = map-Addend (Growing Factor (judged_factor sight wan
 abbrev addend_layer : Sight → Due → Addend-F Factor Addend Expression Multiplier Term → Judged
 addend_layer sight wanted x = addend_judged (map-Addend Factor Addend Expression Multiplier Term Judged Judged Judged Judged Judged (judged_factor sight wanted) (judged_addend sight wanted) (judged_expression sight wanted) (judged_multiplier sight wanted) (judged_term sight wanted) x)
 
-addend_grows : (sight : Sight) (wanted : Due) (y : AddendParts sight wanted) → Grows (addend_layer sight wanted (bare_addend sight wanted y))
-addend_grows sight wanted y faults e = y.term.1 faults e
+addend_layer_grows : (sight : Sight) (wanted : Due) (y : AddendParts sight wanted) → Grows (addend_layer sight wanted (bare_addend sight wanted y))
+addend_layer_grows sight wanted y faults e = y.term.1 faults e
 
 addend_rolled : (sight : Sight) (wanted : Due) (x : Addend-F Factor Addend Expression Multiplier Term) (y : AddendParts sight wanted) → bare_addend sight wanted y ≡ x
     → Grows (judged_addend sight wanted (roll-Addend x))
 addend_rolled sight wanted x y is =
     subst Grows (sym (fold-roll-Addend Judged Judged Judged Judged Judged (factor_judged sight wanted) addend_judged expression_judged multiplier_judged term_judged x))
-    (subst (λ (l : Addend-F Factor Addend Expression Multiplier Term). Grows (addend_layer sight wanted l)) is (addend_grows sight wanted y))
+    (subst (λ (l : Addend-F Factor Addend Expression Multiplier Term). Grows (addend_layer sight wanted l)) is (addend_layer_grows sight wanted y))
 
 abbrev ExpressionParts : Sight → Due → Type 0
 ExpressionParts sight wanted = Expression-F (Growing Factor (judged_factor sight wanted)) (Growing Addend (judged_addend sight wanted)) (Growing Expression (judged_expression sight wanted)) (Growing Multiplier (judged_multiplier sight wanted)) (Growing Term (judged_term sight wanted))
@@ -143,14 +143,14 @@ bare_expression sight wanted y = map-Expression (Growing Factor (judged_factor s
 abbrev expression_layer : Sight → Due → Expression-F Factor Addend Expression Multiplier Term → Judged
 expression_layer sight wanted x = expression_judged (map-Expression Factor Addend Expression Multiplier Term Judged Judged Judged Judged Judged (judged_factor sight wanted) (judged_addend sight wanted) (judged_expression sight wanted) (judged_multiplier sight wanted) (judged_term sight wanted) x)
 
-expression_grows : (sight : Sight) (wanted : Due) (y : ExpressionParts sight wanted) → Grows (expression_layer sight wanted (bare_expression sight wanted y))
-expression_grows sight wanted y faults e = y.first.1 faults (in_turn_grows (judged_addend sight wanted) y.more _ e)
+expression_layer_grows : (sight : Sight) (wanted : Due) (y : ExpressionParts sight wanted) → Grows (expression_layer sight wanted (bare_expression sight wanted y))
+expression_layer_grows sight wanted y faults e = y.first.1 faults (in_turn_grows (judged_addend sight wanted) y.more _ e)
 
 expression_rolled : (sight : Sight) (wanted : Due) (x : Expression-F Factor Addend Expression Multiplier Term) (y : ExpressionParts sight wanted) → bare_expression sight wanted y ≡ x
     → Grows (judged_expression sight wanted (roll-Expression x))
 expression_rolled sight wanted x y is =
     subst Grows (sym (fold-roll-Expression Judged Judged Judged Judged Judged (factor_judged sight wanted) addend_judged expression_judged multiplier_judged term_judged x))
-    (subst (λ (l : Expression-F Factor Addend Expression Multiplier Term). Grows (expression_layer sight wanted l)) is (expression_grows sight wanted y))
+    (subst (λ (l : Expression-F Factor Addend Expression Multiplier Term). Grows (expression_layer sight wanted l)) is (expression_layer_grows sight wanted y))
 
 abbrev MultiplierParts : Sight → Due → Type 0
 MultiplierParts sight wanted = Multiplier-F (Growing Factor (judged_factor sight wanted)) (Growing Addend (judged_addend sight wanted)) (Growing Expression (judged_expression sight wanted)) (Growing Multiplier (judged_multiplier sight wanted)) (Growing Term (judged_term sight wanted))
@@ -162,14 +162,14 @@ bare_multiplier sight wanted y = map-Multiplier (Growing Factor (judged_factor s
 abbrev multiplier_layer : Sight → Due → Multiplier-F Factor Addend Expression Multiplier Term → Judged
 multiplier_layer sight wanted x = multiplier_judged (map-Multiplier Factor Addend Expression Multiplier Term Judged Judged Judged Judged Judged (judged_factor sight wanted) (judged_addend sight wanted) (judged_expression sight wanted) (judged_multiplier sight wanted) (judged_term sight wanted) x)
 
-multiplier_grows : (sight : Sight) (wanted : Due) (y : MultiplierParts sight wanted) → Grows (multiplier_layer sight wanted (bare_multiplier sight wanted y))
-multiplier_grows sight wanted y faults e = y.factor.1 faults e
+multiplier_layer_grows : (sight : Sight) (wanted : Due) (y : MultiplierParts sight wanted) → Grows (multiplier_layer sight wanted (bare_multiplier sight wanted y))
+multiplier_layer_grows sight wanted y faults e = y.factor.1 faults e
 
 multiplier_rolled : (sight : Sight) (wanted : Due) (x : Multiplier-F Factor Addend Expression Multiplier Term) (y : MultiplierParts sight wanted) → bare_multiplier sight wanted y ≡ x
     → Grows (judged_multiplier sight wanted (roll-Multiplier x))
 multiplier_rolled sight wanted x y is =
     subst Grows (sym (fold-roll-Multiplier Judged Judged Judged Judged Judged (factor_judged sight wanted) addend_judged expression_judged multiplier_judged term_judged x))
-    (subst (λ (l : Multiplier-F Factor Addend Expression Multiplier Term). Grows (multiplier_layer sight wanted l)) is (multiplier_grows sight wanted y))
+    (subst (λ (l : Multiplier-F Factor Addend Expression Multiplier Term). Grows (multiplier_layer sight wanted l)) is (multiplier_layer_grows sight wanted y))
 
 abbrev TermParts : Sight → Due → Type 0
 TermParts sight wanted = Term-F (Growing Factor (judged_factor sight wanted)) (Growing Addend (judged_addend sight wanted)) (Growing Expression (judged_expression sight wanted)) (Growing Multiplier (judged_multiplier sight wanted)) (Growing Term (judged_term sight wanted))
@@ -181,24 +181,24 @@ bare_term sight wanted y = map-Term (Growing Factor (judged_factor sight wanted)
 abbrev term_layer : Sight → Due → Term-F Factor Addend Expression Multiplier Term → Judged
 term_layer sight wanted x = term_judged (map-Term Factor Addend Expression Multiplier Term Judged Judged Judged Judged Judged (judged_factor sight wanted) (judged_addend sight wanted) (judged_expression sight wanted) (judged_multiplier sight wanted) (judged_term sight wanted) x)
 
-term_grows : (sight : Sight) (wanted : Due) (y : TermParts sight wanted) → Grows (term_layer sight wanted (bare_term sight wanted y))
-term_grows sight wanted y faults e = y.first.1 faults (in_turn_grows (judged_multiplier sight wanted) y.more _ e)
+term_layer_grows : (sight : Sight) (wanted : Due) (y : TermParts sight wanted) → Grows (term_layer sight wanted (bare_term sight wanted y))
+term_layer_grows sight wanted y faults e = y.first.1 faults (in_turn_grows (judged_multiplier sight wanted) y.more _ e)
 
 term_rolled : (sight : Sight) (wanted : Due) (x : Term-F Factor Addend Expression Multiplier Term) (y : TermParts sight wanted) → bare_term sight wanted y ≡ x
     → Grows (judged_term sight wanted (roll-Term x))
 term_rolled sight wanted x y is =
     subst Grows (sym (fold-roll-Term Judged Judged Judged Judged Judged (factor_judged sight wanted) addend_judged expression_judged multiplier_judged term_judged x))
-    (subst (λ (l : Term-F Factor Addend Expression Multiplier Term). Grows (term_layer sight wanted l)) is (term_grows sight wanted y))
+    (subst (λ (l : Term-F Factor Addend Expression Multiplier Term). Grows (term_layer sight wanted l)) is (term_layer_grows sight wanted y))
 
-pub expression_grows_all : (sight : Sight) (wanted : Due) (e : Expression) → Grows (judged_expression sight wanted e)
-expression_grows_all sight wanted = ind-Expression
+pub expression_grows : (sight : Sight) (wanted : Due) (e : Expression) → Grows (judged_expression sight wanted e)
+expression_grows sight wanted = ind-Expression
     (λ (f : Factor). Grows (judged_factor sight wanted f)) (λ (a : Addend). Grows (judged_addend sight wanted a))
     (λ (e : Expression). Grows (judged_expression sight wanted e)) (λ (m : Multiplier). Grows (judged_multiplier sight wanted m))
     (λ (t : Term). Grows (judged_term sight wanted t))
     (factor_rolled sight wanted) (addend_rolled sight wanted) (expression_rolled sight wanted) (multiplier_rolled sight wanted) (term_rolled sight wanted)
 
 pub number_grows : (sight : Sight) (e : Expression) → Grows (judged_number sight e)
-number_grows sight e = expression_grows_all sight due.Number e
+number_grows sight e = expression_grows sight due.Number e
 
 pub condition_grows : (sight : Sight) (c : Condition) → Grows (judged_condition sight c)
 condition_grows sight (conditions.Always place) faults e = e
@@ -213,9 +213,9 @@ bank_grows sight e None faults none = noted_grows faults _ none
 
 argument_grows : (sight : Sight) (wanted : Due) (e : Expression) → Grows (judged_argument sight wanted e)
 argument_grows sight due.Bank e faults none = bank_grows sight e (name_alone e) faults none
-argument_grows sight due.Number e faults none = expression_grows_all sight due.Number e faults none
-argument_grows sight due.Target e faults none = expression_grows_all sight due.Target e faults none
-argument_grows sight due.Any e faults none = expression_grows_all sight due.Any e faults none
+argument_grows sight due.Number e faults none = expression_grows sight due.Number e faults none
+argument_grows sight due.Target e faults none = expression_grows sight due.Target e faults none
+argument_grows sight due.Any e faults none = expression_grows sight due.Any e faults none
 
 arguments_grow : (sight : Sight) (banks : List Bool) (es : List Expression) → Grows (judged_arguments sight banks es)
 arguments_grow sight banks [] faults none = none

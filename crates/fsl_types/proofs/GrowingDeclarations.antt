@@ -23,7 +23,7 @@ use Rattle.fsl_types.specs.Names.{found, text_at}
 use Rattle.fsl_types.specs.Programs.{banks_among, contract, declaration, declare_each, in_ensures, in_invariant, in_requires, invariant, is_bank, list_each, listed_invariant, listed_procedure, parameters_of, parts, procedure, with_parameter, with_parameters}
 use Rattle.fsl_types.specs.Walks.{declared, fresh, one_more}
 use Rattle.fsl_types.proofs.FittingAssertions.{assertion_fits, clause_fits}
-use Rattle.fsl_types.proofs.FittingStatements.{a_block_fits}
+use Rattle.fsl_types.proofs.FittingStatements.{block_fits}
 use Rattle.fsl_types.proofs.Growing.{noted_grows, noted_keeps}
 
 -- ---- parameters
@@ -77,7 +77,7 @@ invariant_known p given i faults none = noted_grows _ _ (value_known p given i f
 
 pub contract_known : (p : Program) (given : Given) (q : Procedure) (faults : List Fault) → (procedure given q faults).walk.faults ≡ []
     → (contract given q (known given q.parameters faults)).walk.faults ≡ []
-contract_known p given q faults none = (a_block_fits p given q.body).grows false _ none
+contract_known p given q faults none = (block_fits p given q.body).grows false _ none
 
 pub pre_known : (p : Program) (given : Given) (q : Procedure) (faults : List Fault) → (procedure given q faults).walk.faults ≡ []
     → (clause given q.requires_clause in_requires (known given q.parameters faults)).walk.faults ≡ []
