@@ -16,6 +16,8 @@ mod producing;
 mod sides;
 mod take;
 mod terms;
+#[cfg(test)]
+mod tests;
 mod walk;
 
 pub use branch::{Bound, Branch, Decided};
