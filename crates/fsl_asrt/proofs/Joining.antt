@@ -23,7 +23,7 @@ joined_by puts rung x share value = do
 
 put_same : (rung : Rung) (s t : State) (f : Found Chunk Cell) (c : FoundCell) (by : Chunk) → IsFound rung s.chunks f c
     → t.chunks ≡ s.chunks → put_at c.number by t ≡ put f by t
-put_same rung s t f c by h e = 
+put_same rung s t f c by h e =
     ap (λ (cs : List Chunk). goes tt (record t { chunks = cs }) ∷ []) (rw e (h.put by))
 
 pub joined : (rung : Rung) (s : State) (f : Found Chunk Cell) (c : FoundCell) (at share : Combination) (value : Option Combination)
@@ -31,10 +31,10 @@ pub joined : (rung : Rung) (s : State) (f : Found Chunk Cell) (c : FoundCell) (a
     → joined_at rung c share value s ≡ join_cell rung (record { at = at; share = share; value = value }) (Some f) s
 joined rung s f c at share value h =
     let a : joined_by (put_at c.number) rung (cell_of c) share value s ≡ joined_by (put f) rung (cell_of c) share value s =
-      followed_same s (fitting (plus c.share share) s) _ _ (fitting_kept (plus c.share share) s) (λ sum t e.
-      followed_same t (assume_at_most sum (pos 0) full t) _ _ (at_most_kept sum (pos 0) full t) (λ _ u k.
-      followed_same u (assume_same c.value value u) _ _ (same_kept c.value value u) (λ _ v l.
-      put_same rung s v f c (chunk.Points rung c.at sum (known_of c.value value)) h (l ∙ k ∙ e)))) in
+    followed_same s (fitting (plus c.share share) s) _ _ (fitting_kept (plus c.share share) s) (λ sum t e.
+    followed_same t (assume_at_most sum (pos 0) full t) _ _ (at_most_kept sum (pos 0) full t) (λ _ u k.
+    followed_same u (assume_same c.value value u) _ _ (same_kept c.value value u) (λ _ v l.
+    put_same rung s v f c (chunk.Points rung c.at sum (known_of c.value value)) h (l ∙ k ∙ e)))) in
     a ∙ ap (λ (x : Cell). joined_by (put f) rung x share value s) h.is
 
 -- ---- the first chunk of a cell, or none

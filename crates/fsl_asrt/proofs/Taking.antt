@@ -48,18 +48,18 @@ rest_stays share k s after h l =
 pub rest_either : {X : Type 0} (share k : Combination) (s : State) (after : Option Combination → Rule X)
     → proves_equal s.facts share k ≡ false → proves_at_most s.facts k (pos 1) share ≡ false
     → followed (rest_of share k s) after
-      ≡ (assume_at_most share (pos 0) k >> after None) s ++ (assume_at_most k (pos 1) share >> stays share k after) s
+    ≡ (assume_at_most share (pos 0) k >> after None) s ++ (assume_at_most k (pos 1) share >> stays share k after) s
 rest_either share k s after h l =
     let low = assume_at_most share (pos 0) k s in
     let high = assume_at_most k (pos 1) share s in
     let something : Rule (Option Combination) = fitting (minus share k) >>= (λ r. give (Some r)) in
     rw (h, l) (
-      twice_nil (followed low (λ _. give None) ++ followed high (λ _. something)) after
-      ∙ followed_append (followed low (λ _. give None)) (followed high (λ _. something)) after
-      ∙ ap (λ r. r ++ followed (followed high (λ _. something)) after) (given_then low (λ _. None) after)
-      ∙ ap (λ r. followed low (λ _. after None) ++ r)
-          (followed_twice high (λ _. something) after
-           ∙ followed_equal high _ _ (λ x t. given_then (fitting (minus share k) t) Some after)))
+    twice_nil (followed low (λ _. give None) ++ followed high (λ _. something)) after
+    ∙ followed_append (followed low (λ _. give None)) (followed high (λ _. something)) after
+    ∙ ap (λ r. r ++ followed (followed high (λ _. something)) after) (given_then low (λ _. None) after)
+    ∙ ap (λ r. followed low (λ _. after None) ++ r)
+    (followed_twice high (λ _. something) after
+    ∙ followed_equal high _ _ (λ x t. given_then (fitting (minus share k) t) Some after)))
 
 abbrev something : Combination → Combination → Rule (Option Combination)
 something share k t = followed (fitting (minus share k) t) (λ r. give (Some r))
@@ -79,8 +79,8 @@ rest_kept_by share k s false false h l =
     let high : Branches (Option Combination) = followed (assume_at_most k (pos 1) share s) (λ _. something share k) in
     let low_kept : AreKept s low = given_kept s (assume_at_most share (pos 0) k s) (λ _. None) (at_most_kept share (pos 0) k s) in
     let high_kept : AreKept s high =
-      followed_kept s (assume_at_most k (pos 1) share s) (λ _. something share k) (at_most_kept k (pos 1) share s)
-        (λ x t e. something_kept share k s t e) in
+    followed_kept s (assume_at_most k (pos 1) share s) (λ _. something share k) (at_most_kept k (pos 1) share s)
+    (λ x t e. something_kept share k s t e) in
     let both : AreKept s (low ++ high) = kept_append s low high low_kept high_kept in
     rw (h, l) (kept_append s ((low ++ high) ++ []) [] (kept_append s (low ++ high) [] both tt) tt)
 
@@ -119,7 +119,7 @@ match_kept any value env s = (refl, tt)
 match_kept (bind slot) value env s = given_kept s (demand_some kind.Uninit value s) (λ v. slice_set env slot v) (some_kept kind.Uninit value s)
 match_kept (equals x) value env s =
     followed_kept s (demand_some kind.Uninit value s) (λ v. demand_equal kind.Value v x >> give env) (some_kept kind.Uninit value s)
-      (λ v t e. equal_kept v x env s t e)
+    (λ v t e. equal_kept v x env s t e)
 
 pub consumed : (rung : Rung) (s : State) (f : Found Chunk Cell) (c : FoundCell) (at k : Combination) (w : Wanted Combination) (env : Env)
     → IsFound rung s.chunks f c → proves_at_most s.facts (constant (pos 1)) (pos 0) k ≡ true → find_cell rung at k s ≡ goes f s ∷ []

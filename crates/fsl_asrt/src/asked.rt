@@ -34,7 +34,12 @@ pub fn read(alloc: Global, state: &State, e: &Expr, env: &Env) -> Result<Option<
 }
 
 /// What a condition asks; `None` where one of its expressions is no term.
-pub fn ask(alloc: Global, state: &State, cond: &Cond, env: &Env) -> Result<Option<Question>, AllocError>
+pub fn ask(
+    alloc: Global,
+    state: &State,
+    cond: &Cond,
+    env: &Env,
+) -> Result<Option<Question>, AllocError>
     ensures { IfOk result (λ q. asked q state.now ≡ sides (cond_of expr_of cond.now) env.now state.now) }
 {
     match cond {
@@ -55,7 +60,14 @@ fn answered(alloc: Global, state: &State, holds: bool) -> Result<Option<Question
 }
 
 /// What a comparison asks.
-fn compare(alloc: Global, state: &State, op: CmpOp, l: &Expr, r: &Expr, env: &Env) -> Result<Option<Question>, AllocError>
+fn compare(
+    alloc: Global,
+    state: &State,
+    op: CmpOp,
+    l: &Expr,
+    r: &Expr,
+    env: &Env,
+) -> Result<Option<Question>, AllocError>
     ensures { IfOk result (λ q. asked q state.now ≡ sides (compares op (expr_of l.now) (expr_of r.now)) env.now state.now) }
 {
     let Some(a) = read(alloc, state, l, env)? else {

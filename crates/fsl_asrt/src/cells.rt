@@ -35,7 +35,12 @@ fn cell(alloc: Global, chunk: &Chunk, number: u32) -> Result<Option<FoundCell>, 
     ensures number { IfOk result (λ c. IfSome c (λ c. c.number ≡ number)) }
 {
     match chunk {
-        Chunk::Points { at, share, value, .. } => {
+        Chunk::Points {
+            at,
+            share,
+            value,
+            ..
+        } => {
             let at = at.try_clone(alloc)?;
             let share = share.try_clone(alloc)?;
             let value = copied(alloc, value)?;
@@ -51,7 +56,12 @@ fn cell(alloc: Global, chunk: &Chunk, number: u32) -> Result<Option<FoundCell>, 
 }
 
 /// The first chunk of a cell, if there is one.
-pub fn cell_at(alloc: Global, state: &State, rung: Rung, at: &Lin) -> Result<Option<FoundCell>, AllocError>
+pub fn cell_at(
+    alloc: Global,
+    state: &State,
+    rung: Rung,
+    at: &Lin,
+) -> Result<Option<FoundCell>, AllocError>
     ensures { IfOk result (IsFoundBy rung state.now.chunks (first (cell_at rung at.now state.now.facts) state.now.chunks)) }
 {
     match state.find(&Want::Points { rung, at }) {
@@ -61,7 +71,13 @@ pub fn cell_at(alloc: Global, state: &State, rung: Rung, at: &Lin) -> Result<Opt
 }
 
 /// The first chunk of a cell with at least this share, if there is one.
-pub fn enough_at(alloc: Global, state: &State, rung: Rung, at: &Lin, share: &Lin) -> Result<Option<FoundCell>, AllocError>
+pub fn enough_at(
+    alloc: Global,
+    state: &State,
+    rung: Rung,
+    at: &Lin,
+    share: &Lin,
+) -> Result<Option<FoundCell>, AllocError>
     ensures { IfOk result (IsFoundBy rung state.now.chunks (first (enough_at rung at.now share.now state.now.facts) state.now.chunks)) }
 {
     match state.find(&Want::Enough { rung, at, share }) {

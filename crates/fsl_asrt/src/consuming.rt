@@ -29,7 +29,14 @@ fn failing(mood: Mood) -> Kind
 }
 
 /// Consumes a fact. It has no rung.
-pub fn fact(alloc: Global, state: State, cond: &Cond, env: Env, rung: Rung, mood: Mood) -> Result<List<Bound>, AllocError>
+pub fn fact(
+    alloc: Global,
+    state: State,
+    cond: &Cond,
+    env: Env,
+    rung: Rung,
+    mood: Mood,
+) -> Result<List<Bound>, AllocError>
     ensures { IfOk result (λ bs. bounds bs ≡ fact_consumed (cond_of expr_of cond.now) mood rung env state) }
 {
     let went = demand_cond(alloc, state, failing(mood), cond, &env)?;
@@ -37,7 +44,16 @@ pub fn fact(alloc: Global, state: State, cond: &Cond, env: Env, rung: Rung, mood
 }
 
 /// Consumes a share of a cell. It has no mood.
-pub fn points(alloc: Global, state: State, at: &Expr, share: &Expr, pat: &Pat, env: Env, rung: Rung, mood: Mood) -> Result<List<Bound>, AllocError>
+pub fn points(
+    alloc: Global,
+    state: State,
+    at: &Expr,
+    share: &Expr,
+    pat: &Pat,
+    env: Env,
+    rung: Rung,
+    mood: Mood,
+) -> Result<List<Bound>, AllocError>
     ensures { IfOk result (λ bs. bounds bs ≡ points_consumed (expr_of at.now) (expr_of share.now) (pat_of expr_of pat.now) mood rung env state) }
 {
     match points_to(alloc, &state, at, share, pat, &env)? {

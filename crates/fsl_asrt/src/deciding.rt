@@ -33,7 +33,13 @@ fn assume(alloc: Global, state: State, given: Given, a: &Lin, b: &Lin) -> Result
 }
 
 /// The branch of a side, if there is one.
-fn branch_of(alloc: Global, state: State, side: Side, a: &Lin, b: &Lin) -> Result<List<Decided>, AllocError>
+fn branch_of(
+    alloc: Global,
+    state: State,
+    side: Side,
+    a: &Lin,
+    b: &Lin,
+) -> Result<List<Decided>, AllocError>
     ensures { IfOk result (λ ds. decided_list ds ≡ taken a.now b.now side state) }
 {
     let went = assume(alloc, state, side.given, a, b)?;
@@ -50,7 +56,13 @@ fn branch_of(alloc: Global, state: State, side: Side, a: &Lin, b: &Lin) -> Resul
 }
 
 /// The branches of sides, in order. The last side takes the state itself.
-fn each_side(alloc: Global, state: State, sides: &[Side], a: &Lin, b: &Lin) -> Result<List<Decided>, AllocError>
+fn each_side(
+    alloc: Global,
+    state: State,
+    sides: &[Side],
+    a: &Lin,
+    b: &Lin,
+) -> Result<List<Decided>, AllocError>
     ensures { IfOk result (λ ds. decided_list ds ≡ each_side (sides_of a.now b.now sides.now) state) }
 {
     let Some((first, rest)) = sides.split_first() else {
@@ -67,7 +79,13 @@ fn each_side(alloc: Global, state: State, sides: &[Side], a: &Lin, b: &Lin) -> R
 }
 
 /// Decides a comparison of two terms.
-pub fn decide(alloc: Global, state: State, op: CmpOp, a: &Lin, b: &Lin) -> Result<List<Decided>, AllocError>
+pub fn decide(
+    alloc: Global,
+    state: State,
+    op: CmpOp,
+    a: &Lin,
+    b: &Lin,
+) -> Result<List<Decided>, AllocError>
     ensures { IfOk result (λ ds. decided_list ds ≡ each_side (decide op a.now b.now state.facts) state) }
 {
     let sides = sides(alloc, &state, op, a, b)?;
@@ -84,7 +102,12 @@ fn failing(alloc: Global, kind: Kind) -> Result<List<Decided>, AllocError>
 }
 
 /// Decides a condition. It fails with `Term` where a side is no term.
-pub fn decide_cond(alloc: Global, state: State, cond: &Cond, env: &Env) -> Result<List<Decided>, AllocError>
+pub fn decide_cond(
+    alloc: Global,
+    state: State,
+    cond: &Cond,
+    env: &Env,
+) -> Result<List<Decided>, AllocError>
     ensures { IfOk result (λ ds. decided_list ds ≡ decided (cond_of expr_of cond.now) env.now state) }
 {
     match ask(alloc, &state, cond, env)? {
@@ -94,7 +117,13 @@ pub fn decide_cond(alloc: Global, state: State, cond: &Cond, env: &Env) -> Resul
 }
 
 /// The branches of a condition with this answer alone.
-fn with_answer(alloc: Global, state: State, answer: bool, cond: &Cond, env: &Env) -> Result<List<Decided>, AllocError>
+fn with_answer(
+    alloc: Global,
+    state: State,
+    answer: bool,
+    cond: &Cond,
+    env: &Env,
+) -> Result<List<Decided>, AllocError>
     ensures { IfOk result (λ ds. followed (decided_list ds) (λ _. done) ≡ assume_cond answer (cond_of expr_of cond.now) env.now state) }
 {
     match ask(alloc, &state, cond, env)? {
@@ -107,7 +136,13 @@ fn with_answer(alloc: Global, state: State, answer: bool, cond: &Cond, env: &Env
 }
 
 /// Assumes that a condition holds, or that it doesn't hold.
-pub fn assume_cond(alloc: Global, state: State, answer: bool, cond: &Cond, env: &Env) -> Result<List<Branch>, AllocError>
+pub fn assume_cond(
+    alloc: Global,
+    state: State,
+    answer: bool,
+    cond: &Cond,
+    env: &Env,
+) -> Result<List<Branch>, AllocError>
     ensures { IfOk result (λ bs. branch_list bs ≡ assume_cond answer (cond_of expr_of cond.now) env.now state) }
 {
     let decided = with_answer(alloc, state, answer, cond, env)?;
@@ -122,7 +157,13 @@ pub fn assume_cond(alloc: Global, state: State, answer: bool, cond: &Cond, env: 
 }
 
 /// Demands that a condition is proved; else the path fails by this kind.
-pub fn demand_cond(alloc: Global, state: State, kind: Kind, cond: &Cond, env: &Env) -> Result<Went, AllocError>
+pub fn demand_cond(
+    alloc: Global,
+    state: State,
+    kind: Kind,
+    cond: &Cond,
+    env: &Env,
+) -> Result<Went, AllocError>
     ensures { IfOk result (λ went. branches went ≡ demand_cond kind (cond_of expr_of cond.now) env.now state) }
 {
     match ask(alloc, &state, cond, env)? {

@@ -37,22 +37,39 @@ fn at_most_full(alloc: Global, state: State, share: &Lin) -> Result<Went, AllocE
 }
 
 /// Adds a share of a cell, which was assumed to be one.
-pub fn add_cell(alloc: Global, state: State, rung: Rung, at: Lin, share: Lin, value: Option<Lin>) -> Result<Went, AllocError>
+pub fn add_cell(
+    alloc: Global,
+    state: State,
+    rung: Rung,
+    at: Lin,
+    share: Lin,
+    value: Option<Lin>,
+) -> Result<Went, AllocError>
     ensures { IfOk result (λ went. branches went ≡ add_cell rung (record { at = at; share = share; value = value }) state) }
 {
     match cell_at(alloc, &state, rung, &at)? {
         Some(c) => join(alloc, state, c, rung, &share, value),
-        None => state.add(alloc, Chunk::Points {
-            rung,
-            at,
-            share,
-            value,
-        }),
+        None => state.add(
+            alloc,
+            Chunk::Points {
+                rung,
+                at,
+                share,
+                value,
+            },
+        ),
     }
 }
 
 /// A share joins the chunk of its cell.
-fn join(alloc: Global, state: State, c: FoundCell, rung: Rung, share: &Lin, value: Option<Lin>) -> Result<Went, AllocError>
+fn join(
+    alloc: Global,
+    state: State,
+    c: FoundCell,
+    rung: Rung,
+    share: &Lin,
+    value: Option<Lin>,
+) -> Result<Went, AllocError>
     requires { IsPoints rung c.number state.chunks }
     ensures { IfOk result (λ went. branches went ≡ joined_at rung c share.now value state) }
 {
@@ -64,7 +81,14 @@ fn join(alloc: Global, state: State, c: FoundCell, rung: Rung, share: &Lin, valu
 }
 
 /// The chunk gets a share that is assumed to be at most all.
-fn join_sum(alloc: Global, state: State, c: FoundCell, rung: Rung, sum: Lin, value: Option<Lin>) -> Result<Went, AllocError>
+fn join_sum(
+    alloc: Global,
+    state: State,
+    c: FoundCell,
+    rung: Rung,
+    sum: Lin,
+    value: Option<Lin>,
+) -> Result<Went, AllocError>
     requires { IsPoints rung c.number state.chunks }
     ensures { IfOk result (λ went. branches went ≡ summed_at rung c sum value state) }
 {
@@ -76,7 +100,14 @@ fn join_sum(alloc: Global, state: State, c: FoundCell, rung: Rung, sum: Lin, val
 }
 
 /// The values are assumed to be equal where both are known.
-fn join_values(alloc: Global, state: State, c: FoundCell, rung: Rung, sum: Lin, value: Option<Lin>) -> Result<Went, AllocError>
+fn join_values(
+    alloc: Global,
+    state: State,
+    c: FoundCell,
+    rung: Rung,
+    sum: Lin,
+    value: Option<Lin>,
+) -> Result<Went, AllocError>
     requires { IsPoints rung c.number state.chunks }
     ensures { IfOk result (λ went. branches went ≡ valued_at rung c sum value state) }
 {
@@ -88,7 +119,12 @@ fn join_values(alloc: Global, state: State, c: FoundCell, rung: Rung, sum: Lin, 
 }
 
 /// Assumes that two values are equal where both are known.
-fn assume_same(alloc: Global, state: State, a: &Option<Lin>, b: &Option<Lin>) -> Result<Went, AllocError>
+fn assume_same(
+    alloc: Global,
+    state: State,
+    a: &Option<Lin>,
+    b: &Option<Lin>,
+) -> Result<Went, AllocError>
     ensures { IfOk result (λ went. branches went ≡ assume_same a.now b.now state) }
 {
     match (a, b) {
@@ -98,7 +134,14 @@ fn assume_same(alloc: Global, state: State, a: &Option<Lin>, b: &Option<Lin>) ->
 }
 
 /// Puts the sum in the place of the chunk, with the value that is known.
-fn put_sum(alloc: Global, state: State, c: FoundCell, rung: Rung, sum: Lin, value: Option<Lin>) -> Result<Went, AllocError>
+fn put_sum(
+    alloc: Global,
+    state: State,
+    c: FoundCell,
+    rung: Rung,
+    sum: Lin,
+    value: Option<Lin>,
+) -> Result<Went, AllocError>
     requires { IsPoints rung c.number state.chunks }
     ensures { IfOk result (λ went. branches went ≡ put_at c.number (chunk.Points rung c.at sum (known_of c.value value)) state) }
 {
@@ -110,12 +153,16 @@ fn put_sum(alloc: Global, state: State, c: FoundCell, rung: Rung, sum: Lin, valu
     } = c;
     let value = known_of(known, value);
     let mut state = state;
-    state.put(alloc, number, Chunk::Points {
-        rung,
-        at,
-        share: sum,
-        value,
-    })?;
+    state.put(
+        alloc,
+        number,
+        Chunk::Points {
+            rung,
+            at,
+            share: sum,
+            value,
+        },
+    )?;
     Ok(Went::Goes { state })
 }
 

@@ -45,7 +45,14 @@ fn value_of(alloc: Global, state: &State, pat: &Pat, env: &Env) -> Result<Option
 }
 
 /// A points-to in terms, made from left to right; `None` where one of its expressions is no term.
-pub fn points_to(alloc: Global, state: &State, at: &Expr, share: &Expr, pat: &Pat, env: &Env) -> Result<Option<PointsTo>, AllocError>
+pub fn points_to(
+    alloc: Global,
+    state: &State,
+    at: &Expr,
+    share: &Expr,
+    pat: &Pat,
+    env: &Env,
+) -> Result<Option<PointsTo>, AllocError>
     ensures { (after : Combination → Combination → Wanted Combination → Rule states.Env) → IfOk result (λ p. pointed p after state.now ≡ with_terms (expr_of at.now) (expr_of share.now) (pat_of expr_of pat.now) env.now after state.now) }
 {
     let Some(at) = read(alloc, state, at, env)? else {

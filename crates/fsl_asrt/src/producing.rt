@@ -18,7 +18,13 @@ use fsl_lin::Lin;
 use std::alloc::{AllocError, Global};
 
 /// Produces a fact. It has no rung.
-pub fn fact(alloc: Global, state: State, cond: &Cond, env: Env, rung: Rung) -> Result<List<Bound>, AllocError>
+pub fn fact(
+    alloc: Global,
+    state: State,
+    cond: &Cond,
+    env: Env,
+    rung: Rung,
+) -> Result<List<Bound>, AllocError>
     ensures { IfOk result (λ bs. bounds bs ≡ fact_produced (cond_of expr_of cond.now) rung env state) }
 {
     let branches = assume_cond(alloc, state, true, cond, &env)?;
@@ -26,7 +32,15 @@ pub fn fact(alloc: Global, state: State, cond: &Cond, env: Env, rung: Rung) -> R
 }
 
 /// Produces a share of a cell.
-pub fn points(alloc: Global, state: State, at: &Expr, share: &Expr, pat: &Pat, env: Env, rung: Rung) -> Result<List<Bound>, AllocError>
+pub fn points(
+    alloc: Global,
+    state: State,
+    at: &Expr,
+    share: &Expr,
+    pat: &Pat,
+    env: Env,
+    rung: Rung,
+) -> Result<List<Bound>, AllocError>
     ensures { IfOk result (λ bs. bounds bs ≡ points_produced (expr_of at.now) (expr_of share.now) (pat_of expr_of pat.now) rung env state) }
 {
     match points_to(alloc, &state, at, share, pat, &env)? {
@@ -36,7 +50,13 @@ pub fn points(alloc: Global, state: State, at: &Expr, share: &Expr, pat: &Pat, e
 }
 
 /// Assumes that a share is one, and adds it.
-fn produce_cell(alloc: Global, state: State, p: PointsTo, env: Env, rung: Rung) -> Result<List<Bound>, AllocError>
+fn produce_cell(
+    alloc: Global,
+    state: State,
+    p: PointsTo,
+    env: Env,
+    rung: Rung,
+) -> Result<List<Bound>, AllocError>
     ensures { IfOk result (λ bs. bounds bs ≡ produced rung p env state) }
 {
     match assume_share(alloc, state, &p.share)? {
@@ -47,7 +67,13 @@ fn produce_cell(alloc: Global, state: State, p: PointsTo, env: Env, rung: Rung) 
 }
 
 /// Adds a share of a cell, with the value of a pattern. A binder is a new symbol.
-fn add_wanted(alloc: Global, state: State, p: PointsTo, env: Env, rung: Rung) -> Result<List<Bound>, AllocError>
+fn add_wanted(
+    alloc: Global,
+    state: State,
+    p: PointsTo,
+    env: Env,
+    rung: Rung,
+) -> Result<List<Bound>, AllocError>
     ensures { IfOk result (λ bs. bounds bs ≡ add_wanted rung p.at p.share (wanted_of p.value) env state) }
 {
     let PointsTo { at, share, value } = p;
@@ -62,7 +88,15 @@ fn add_wanted(alloc: Global, state: State, p: PointsTo, env: Env, rung: Rung) ->
 }
 
 /// Adds a share of a cell.
-fn add_with(alloc: Global, state: State, at: Lin, share: Lin, value: Option<Lin>, env: Env, rung: Rung) -> Result<List<Bound>, AllocError>
+fn add_with(
+    alloc: Global,
+    state: State,
+    at: Lin,
+    share: Lin,
+    value: Option<Lin>,
+    env: Env,
+    rung: Rung,
+) -> Result<List<Bound>, AllocError>
     ensures { IfOk result (λ bs. bounds bs ≡ added rung (record { at = at; share = share; value = value }) env state) }
 {
     let went = add_cell(alloc, state, rung, at, share, value)?;
@@ -70,7 +104,16 @@ fn add_with(alloc: Global, state: State, at: Lin, share: Lin, value: Option<Lin>
 }
 
 /// Adds a share of a cell whose value is a new symbol, and sets the slot to it.
-fn bind(alloc: Global, state: State, at: Lin, share: Lin, slot: u32, symbol: Lin, env: Env, rung: Rung) -> Result<List<Bound>, AllocError>
+fn bind(
+    alloc: Global,
+    state: State,
+    at: Lin,
+    share: Lin,
+    slot: u32,
+    symbol: Lin,
+    env: Env,
+    rung: Rung,
+) -> Result<List<Bound>, AllocError>
     ensures { IfOk result (λ bs. bounds bs ≡ added rung (record { at = at; share = share; value = Some symbol }) (slice_set env slot symbol) state) }
 {
     let value = symbol.try_clone(alloc)?;

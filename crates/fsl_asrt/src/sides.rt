@@ -70,7 +70,14 @@ pub fn known(alloc: Global, holds: bool) -> Result<List<Side>, AllocError>
 }
 
 /// The sides of an order that holds by one fact, and doesn't by another.
-fn ordered(alloc: Global, state: &State, so: Given, not_so: Given, a: &Lin, b: &Lin) -> Result<List<Side>, AllocError>
+fn ordered(
+    alloc: Global,
+    state: &State,
+    so: Given,
+    not_so: Given,
+    a: &Lin,
+    b: &Lin,
+) -> Result<List<Side>, AllocError>
     ensures { IfOk result (λ sides. sides_of a.now b.now sides ≡ ordered so not_so a.now b.now state.now.facts) }
 {
     if proves(state, so, a, b) {
@@ -119,7 +126,13 @@ fn unequal(alloc: Global, state: &State, a: &Lin, b: &Lin) -> Result<List<Side>,
 }
 
 /// The sides of a comparison, in order.
-pub fn sides(alloc: Global, state: &State, op: CmpOp, a: &Lin, b: &Lin) -> Result<List<Side>, AllocError>
+pub fn sides(
+    alloc: Global,
+    state: &State,
+    op: CmpOp,
+    a: &Lin,
+    b: &Lin,
+) -> Result<List<Side>, AllocError>
     ensures { IfOk result (λ sides. sides_of a.now b.now sides ≡ decide op a.now b.now state.now.facts) }
 {
     match op {

@@ -35,7 +35,13 @@ pub enum Matched {
 }
 
 /// The first chunk of a cell that has this share.
-fn find_cell(alloc: Global, state: &State, rung: Rung, at: &Lin, share: &Lin) -> Result<Search, AllocError>
+fn find_cell(
+    alloc: Global,
+    state: &State,
+    rung: Rung,
+    at: &Lin,
+    share: &Lin,
+) -> Result<Search, AllocError>
     ensures { IfOk result (IsSearched rung at.now share.now state.now) }
 {
     match enough_at(alloc, state, rung, at, share)? {
@@ -48,7 +54,13 @@ fn find_cell(alloc: Global, state: &State, rung: Rung, at: &Lin, share: &Lin) ->
 }
 
 /// Holds a value against a pattern, and sets a binder to it.
-fn match_value(alloc: Global, state: &State, value: Value, known: &Option<Lin>, env: Env) -> Result<Matched, AllocError>
+fn match_value(
+    alloc: Global,
+    state: &State,
+    value: Value,
+    known: &Option<Lin>,
+    env: Env,
+) -> Result<Matched, AllocError>
     ensures { IfOk result (λ m. matched m state.now ≡ match_value (wanted_of value) known.now env state.now) }
 {
     match (value, known) {
@@ -75,7 +87,13 @@ fn held(state: &State, v: &Lin, t: &Lin, env: Env) -> Matched
 }
 
 /// Takes a share of a cell out.
-pub fn consume_cell(alloc: Global, state: State, p: PointsTo, env: Env, rung: Rung) -> Result<List<Bound>, AllocError>
+pub fn consume_cell(
+    alloc: Global,
+    state: State,
+    p: PointsTo,
+    env: Env,
+    rung: Rung,
+) -> Result<List<Bound>, AllocError>
     ensures { IfOk result (λ bs. bounds bs ≡ consume_cell rung p.at p.share (wanted_of p.value) env state) }
 {
     let one = constant(alloc, 1)?;
@@ -87,7 +105,13 @@ pub fn consume_cell(alloc: Global, state: State, p: PointsTo, env: Env, rung: Ru
 }
 
 /// Takes a share out of the first chunk of a cell that has it.
-fn take_found(alloc: Global, state: State, p: PointsTo, env: Env, rung: Rung) -> Result<List<Bound>, AllocError>
+fn take_found(
+    alloc: Global,
+    state: State,
+    p: PointsTo,
+    env: Env,
+    rung: Rung,
+) -> Result<List<Bound>, AllocError>
     requires { proves_at_most state.facts (constant (pos 1)) (pos 0) p.share ≡ true }
     ensures { IfOk result (λ bs. bounds bs ≡ consume_cell rung p.at p.share (wanted_of p.value) env state) }
 {
@@ -99,7 +123,15 @@ fn take_found(alloc: Global, state: State, p: PointsTo, env: Env, rung: Rung) ->
 }
 
 /// Takes a share out of a chunk that has it.
-fn take(alloc: Global, state: State, c: FoundCell, share: &Lin, value: Value, env: Env, rung: Rung) -> Result<List<Bound>, AllocError>
+fn take(
+    alloc: Global,
+    state: State,
+    c: FoundCell,
+    share: &Lin,
+    value: Value,
+    env: Env,
+    rung: Rung,
+) -> Result<List<Bound>, AllocError>
     requires { IsPoints rung c.number state.chunks }
     ensures { IfOk result (λ bs. bounds bs ≡ taken_from rung c share.now (wanted_of value) env state) }
 {
@@ -110,7 +142,14 @@ fn take(alloc: Global, state: State, c: FoundCell, share: &Lin, value: Value, en
 }
 
 /// The chunk keeps what is left: nothing, or a rest of at least 1. There are two branches where neither is proved.
-fn take_rest(alloc: Global, state: State, c: FoundCell, share: &Lin, env: Env, rung: Rung) -> Result<List<Bound>, AllocError>
+fn take_rest(
+    alloc: Global,
+    state: State,
+    c: FoundCell,
+    share: &Lin,
+    env: Env,
+    rung: Rung,
+) -> Result<List<Bound>, AllocError>
     requires { IsPoints rung c.number state.chunks }
     ensures { IfOk result (λ bs. bounds bs ≡ rest_taken rung c share.now env state) }
 {
@@ -124,7 +163,13 @@ fn take_rest(alloc: Global, state: State, c: FoundCell, share: &Lin, env: Env, r
 }
 
 /// The chunk goes.
-fn all_taken(alloc: Global, state: State, c: &FoundCell, env: Env, rung: Rung) -> Result<List<Bound>, AllocError>
+fn all_taken(
+    alloc: Global,
+    state: State,
+    c: &FoundCell,
+    env: Env,
+    rung: Rung,
+) -> Result<List<Bound>, AllocError>
     requires { IsPoints rung c.now.number state.chunks }
     ensures { IfOk result (λ bs. bounds bs ≡ left rung c.now None env state) }
 {
@@ -134,7 +179,14 @@ fn all_taken(alloc: Global, state: State, c: &FoundCell, env: Env, rung: Rung) -
 }
 
 /// The chunk keeps a rest.
-fn part_taken(alloc: Global, state: State, c: FoundCell, share: &Lin, env: Env, rung: Rung) -> Result<List<Bound>, AllocError>
+fn part_taken(
+    alloc: Global,
+    state: State,
+    c: FoundCell,
+    share: &Lin,
+    env: Env,
+    rung: Rung,
+) -> Result<List<Bound>, AllocError>
     requires { IsPoints rung c.number state.chunks }
     ensures { IfOk result (λ bs. bounds bs ≡ part_left rung c share.now env state) }
 {
@@ -147,12 +199,16 @@ fn part_taken(alloc: Global, state: State, c: FoundCell, share: &Lin, env: Env, 
     match whole.sub(alloc, share) {
         Ok(rest) => {
             let mut state = state;
-            state.put(alloc, number, Chunk::Points {
-                rung,
-                at,
-                share: rest,
-                value,
-            })?;
+            state.put(
+                alloc,
+                number,
+                Chunk::Points {
+                    rung,
+                    at,
+                    share: rest,
+                    value,
+                },
+            )?;
             going(alloc, state, env)
         }
         Err(LinFault::Wide) => failing(alloc, Kind::Term),
@@ -161,7 +217,14 @@ fn part_taken(alloc: Global, state: State, c: FoundCell, share: &Lin, env: Env, 
 }
 
 /// The rest is at most 0, or it is at least 1.
-fn either(alloc: Global, state: State, c: FoundCell, share: &Lin, env: Env, rung: Rung) -> Result<List<Bound>, AllocError>
+fn either(
+    alloc: Global,
+    state: State,
+    c: FoundCell,
+    share: &Lin,
+    env: Env,
+    rung: Rung,
+) -> Result<List<Bound>, AllocError>
     requires { IsPoints rung c.number state.chunks }
     ensures { IfOk result (λ bs. bounds bs ≡ none_left rung c share.now env state ++ some_left rung c share.now env state) }
 {
@@ -173,7 +236,14 @@ fn either(alloc: Global, state: State, c: FoundCell, share: &Lin, env: Env, rung
 }
 
 /// The chunk goes where its share is assumed to be at most what is taken.
-fn none_left(alloc: Global, state: State, c: &FoundCell, share: &Lin, env: Env, rung: Rung) -> Result<List<Bound>, AllocError>
+fn none_left(
+    alloc: Global,
+    state: State,
+    c: &FoundCell,
+    share: &Lin,
+    env: Env,
+    rung: Rung,
+) -> Result<List<Bound>, AllocError>
     requires { IsPoints rung c.now.number state.chunks }
     ensures { IfOk result (λ bs. bounds bs ≡ none_left rung c.now share.now env state) }
 {
@@ -185,7 +255,14 @@ fn none_left(alloc: Global, state: State, c: &FoundCell, share: &Lin, env: Env, 
 }
 
 /// The chunk keeps a rest that is assumed to be at least 1.
-fn some_left(alloc: Global, state: State, c: FoundCell, share: &Lin, env: Env, rung: Rung) -> Result<List<Bound>, AllocError>
+fn some_left(
+    alloc: Global,
+    state: State,
+    c: FoundCell,
+    share: &Lin,
+    env: Env,
+    rung: Rung,
+) -> Result<List<Bound>, AllocError>
     requires { IsPoints rung c.number state.chunks }
     ensures { IfOk result (λ bs. bounds bs ≡ some_left rung c share.now env state) }
 {

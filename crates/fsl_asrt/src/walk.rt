@@ -11,9 +11,8 @@ ghost use Rattle.fsl_asrt.specs.Ways.{by_way, fact_by, points_by};
 
 use crate::bound::going;
 use crate::branch::{Bound, Decided};
-use crate::consuming;
 use crate::deciding::decide_cond;
-use crate::producing;
+use crate::{consuming, producing};
 use fsl_base::List;
 use fsl_chunk::{Env, State};
 use fsl_core::{Asrt, Cond, Expr, Mood, Pat, Rung};
@@ -27,7 +26,13 @@ pub enum Way {
 }
 
 /// Produces an assertion at a rung. The branches carry the environment with its binders set.
-pub fn produce(alloc: Global, state: State, a: &Asrt, env: Env, rung: Rung) -> Result<List<Bound>, AllocError>
+pub fn produce(
+    alloc: Global,
+    state: State,
+    a: &Asrt,
+    env: Env,
+    rung: Rung,
+) -> Result<List<Bound>, AllocError>
     requires { IsTrue (is_built a.now) }
     ensures { IfOk result (λ bs. bounds bs ≡ (asrt_of a.now).produce rung env state) }
 {
@@ -35,7 +40,14 @@ pub fn produce(alloc: Global, state: State, a: &Asrt, env: Env, rung: Rung) -> R
 }
 
 /// Consumes an assertion at a rung. The branches carry the environment with its binders set.
-pub fn consume(alloc: Global, state: State, a: &Asrt, env: Env, rung: Rung, mood: Mood) -> Result<List<Bound>, AllocError>
+pub fn consume(
+    alloc: Global,
+    state: State,
+    a: &Asrt,
+    env: Env,
+    rung: Rung,
+    mood: Mood,
+) -> Result<List<Bound>, AllocError>
     requires { IsTrue (is_built a.now) }
     ensures { IfOk result (λ bs. bounds bs ≡ (asrt_of a.now).consume mood rung env state) }
 {
@@ -45,7 +57,14 @@ pub fn consume(alloc: Global, state: State, a: &Asrt, env: Env, rung: Rung, mood
 /// Produces or consumes an assertion.
 #[cycle(walk)]
 #[tactic(auto, using(crate::proofs::Walking::by_choice, crate::proofs::Walking::one_more, crate::proofs::Walking::no_more))]
-fn walk(alloc: Global, way: Way, state: State, a: &Asrt, env: Env, rung: Rung) -> Result<List<Bound>, AllocError>
+fn walk(
+    alloc: Global,
+    way: Way,
+    state: State,
+    a: &Asrt,
+    env: Env,
+    rung: Rung,
+) -> Result<List<Bound>, AllocError>
     requires { IsTrue (is_built a.now) }
     ensures { IfOk result (λ bs. bounds bs ≡ by_way way (asrt_of a.now) rung env state) }
 {
@@ -63,7 +82,10 @@ fn walk(alloc: Global, way: Way, state: State, a: &Asrt, env: Env, rung: Rung) -
                         let more = walk(alloc, way, state, yes.get(), env.fork(alloc)?, rung)?;
                         out.append(more)?;
                     }
-                    Decided::Goes { state, holds: false } => {
+                    Decided::Goes {
+                        state,
+                        holds: false,
+                    } => {
                         let more = walk(alloc, way, state, no.get(), env.fork(alloc)?, rung)?;
                         out.append(more)?;
                     }
@@ -85,7 +107,13 @@ fn walk(alloc: Global, way: Way, state: State, a: &Asrt, env: Env, rung: Rung) -
 
 /// An assertion on each branch.
 #[cycle(walk)]
-fn each(alloc: Global, way: Way, branches: List<Bound>, a: &Asrt, rung: Rung) -> Result<List<Bound>, AllocError>
+fn each(
+    alloc: Global,
+    way: Way,
+    branches: List<Bound>,
+    a: &Asrt,
+    rung: Rung,
+) -> Result<List<Bound>, AllocError>
     requires { IsTrue (is_built a.now) }
     ensures { IfOk result (λ bs. bounds bs ≡ followed (bounds branches) (by_way way (asrt_of a.now) rung)) }
 {
@@ -103,7 +131,14 @@ fn each(alloc: Global, way: Way, branches: List<Bound>, a: &Asrt, rung: Rung) ->
 }
 
 /// A fact.
-fn fact(alloc: Global, way: Way, state: State, cond: &Cond, env: Env, rung: Rung) -> Result<List<Bound>, AllocError>
+fn fact(
+    alloc: Global,
+    way: Way,
+    state: State,
+    cond: &Cond,
+    env: Env,
+    rung: Rung,
+) -> Result<List<Bound>, AllocError>
     ensures { IfOk result (λ bs. bounds bs ≡ fact_by way (cond_of expr_of cond.now) rung env state) }
 {
     match way {
@@ -113,7 +148,16 @@ fn fact(alloc: Global, way: Way, state: State, cond: &Cond, env: Env, rung: Rung
 }
 
 /// A share of a cell.
-fn points(alloc: Global, way: Way, state: State, at: &Expr, share: &Expr, pat: &Pat, env: Env, rung: Rung) -> Result<List<Bound>, AllocError>
+fn points(
+    alloc: Global,
+    way: Way,
+    state: State,
+    at: &Expr,
+    share: &Expr,
+    pat: &Pat,
+    env: Env,
+    rung: Rung,
+) -> Result<List<Bound>, AllocError>
     ensures { IfOk result (λ bs. bounds bs ≡ points_by way (expr_of at.now) (expr_of share.now) (pat_of expr_of pat.now) rung env state) }
 {
     match way {

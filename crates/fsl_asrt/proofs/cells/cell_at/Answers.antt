@@ -15,8 +15,8 @@ returns-in-Some c =
     let reads = cell_at c.args.rung c.args.at.now s.facts in
     let there : slice_get s.chunks n ≡ Some chunk = rw c.heap.ensures at c.at.ensures in
     ok_both c.cell.result
-      (λ (r : Option FoundCell). option_map cell_of r ≡ cell_in chunk)
-      (λ (r : Option FoundCell). IfSome r (λ x. x.number ≡ n))
-      (λ (r : Option FoundCell). IsFoundBy c.args.rung s.chunks (first reads s.chunks) r)
-      (λ r p q. found_cell c.args.rung reads s.chunks n chunk r (cell_at_reads c.args.rung c.args.at.now s.facts) c.in-Some.ensures.first there p q)
-      c.cell.ensures.cell c.cell.ensures.number
+    (λ (r : Option FoundCell). option_map cell_of r ≡ cell_in chunk)
+    (λ (r : Option FoundCell). IfSome r (λ x. x.number ≡ n))
+    (λ (r : Option FoundCell). IsFoundBy c.args.rung s.chunks (first reads s.chunks) r)
+    (λ r p q. found_cell c.args.rung reads s.chunks n chunk r (cell_at_reads c.args.rung c.args.at.now s.facts) c.in-Some.ensures.first there p q)
+    c.cell.ensures.cell c.cell.ensures.number

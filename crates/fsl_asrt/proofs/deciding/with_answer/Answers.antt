@@ -20,12 +20,12 @@ returns-in_ok-kept-in-Some c =
     let kept = c.in_ok-kept-in-Some.kept in
     let asks : asked (Some q) state ≡ deciding.sides cond c.args.env.now state = rw c.in-Some.is at c.in_ok-q.ensures in
     let e : assume_cond answer cond c.args.env.now state ≡ followed (each_side (deciding.sides_of answer (sides_of q.a q.b q.sides)) state) (λ _. done) =
-      assumed_by_sides answer cond c.args.env.now state (sides_of q.a q.b q.sides) (sym asks) in
+    assumed_by_sides answer cond c.args.env.now state (sides_of q.a q.b q.sides) (sym asks) in
     let k : kept ≡ filter (λ x. agrees answer x.holds) q.sides = rw c.as_slice.ensures at c.in_ok-kept-in-Some.ensures in
     let l : sides_of q.a q.b kept ≡ deciding.sides_of answer (sides_of q.a q.b q.sides) =
-      ap (sides_of q.a q.b) k ∙ kept_sides q.a q.b answer q.sides in
+    ap (sides_of q.a q.b) k ∙ kept_sides q.a q.b answer q.sides in
     IfOk-weaker c.each_side.result
-      (λ (ds : List Decided). decided ds ≡ each_side (sides_of q.a q.b kept) state)
-      (λ (ds : List Decided). followed (decided ds) (λ _. done) ≡ assume_cond answer cond c.args.env.now state)
-      (λ ds h. ap (λ (bs : Branches Bool). followed bs (λ _. done)) (h ∙ ap (λ (xs : List deciding.Side). each_side xs state) l) ∙ sym e)
-      (rw c.as_slice-in-Some.ensures at c.each_side.ensures)
+    (λ (ds : List Decided). decided ds ≡ each_side (sides_of q.a q.b kept) state)
+    (λ (ds : List Decided). followed (decided ds) (λ _. done) ≡ assume_cond answer cond c.args.env.now state)
+    (λ ds h. ap (λ (bs : Branches Bool). followed bs (λ _. done)) (h ∙ ap (λ (xs : List deciding.Side). each_side xs state) l) ∙ sym e)
+    (rw c.as_slice-in-Some.ensures at c.each_side.ensures)

@@ -12,7 +12,7 @@ returns-in-Goes c =
     let share = c.args.share.now in
     let first = by_one _ _ _ (constant (pos 1)) share s c.in-Goes.is c.in_ok-one.ensures c.in_ok-state.ensures in
     ok_then c.at_most_full.result branches _ _
-      (sym (then_goes (assume_at_most (constant (pos 1)) (pos 0) share s) (assume_at_most share (pos 0) full) c.in-Goes.state first)) c.at_most_full.ensures
+    (sym (then_goes (assume_at_most (constant (pos 1)) (pos 0) share s) (assume_at_most share (pos 0) full) c.in-Goes.state first)) c.at_most_full.ensures
 
 pub returns-in-Gone : goal.returns-in-Gone
 returns-in-Gone c =

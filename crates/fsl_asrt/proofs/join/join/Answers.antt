@@ -11,5 +11,5 @@ returns-in-Ok c =
     let x = c.args.c in
     let sum = c.in-Ok.sum in
     ok_then c.join_sum.result branches (summed_at c.args.rung x sum c.args.value s) (joined_at c.args.rung x c.args.share.now c.args.value s)
-      (sym (fits (plus x.share c.args.share.now) sum s (λ (t : Combination). summed_at c.args.rung x t c.args.value) c.in-Ok.ensures.exact c.in-Ok.ensures.narrow))
-      c.join_sum.ensures
+    (sym (fits (plus x.share c.args.share.now) sum s (λ (t : Combination). summed_at c.args.rung x t c.args.value) c.in-Ok.ensures.exact c.in-Ok.ensures.narrow))
+    c.join_sum.ensures

@@ -8,4 +8,4 @@ put_sum-requires c =
     let v = c.args.c.value in
     let w = c.args.value in
     still_points c.args.rung c.args.c.number s c.in-Goes.state c.requires
-      (goes_kept s (assume_same v w s) tt c.in-Goes.state (same_kept v w s) (went_is _ _ (assume_same v w s) c.in-Goes.is c.in_ok-state.ensures))
+    (goes_kept s (assume_same v w s) tt c.in-Goes.state (same_kept v w s) (went_is _ _ (assume_same v w s) c.in-Goes.is c.in_ok-state.ensures))

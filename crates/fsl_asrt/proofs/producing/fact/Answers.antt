@@ -11,5 +11,5 @@ pub returns : goal.returns
 returns c =
     let env = c.args.env in
     ok_then c.all_with.result bounds (followed (branches c.in_ok-branches.branches) (λ _. give env))
-      (fact_produced (cond_of expr_of c.args.cond.now) c.args.rung env c.args.state)
-      (ap (λ (bs : Branches (Unit {0})). followed bs (λ _. give env)) c.in_ok-branches.ensures) c.all_with.ensures
+    (fact_produced (cond_of expr_of c.args.cond.now) c.args.rung env c.args.state)
+    (ap (λ (bs : Branches (Unit {0})). followed bs (λ _. give env)) c.in_ok-branches.ensures) c.all_with.ensures

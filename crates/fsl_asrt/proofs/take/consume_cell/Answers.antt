@@ -21,7 +21,7 @@ returns-else-proves_at_most c =
     let s = c.args.state in
     let p = c.args.p in
     let l : proves_at_most s.facts (constant (pos 1)) (pos 0) p.share ≡ false =
-      ap (λ (one : Combination). proves_at_most s.facts one (pos 0) p.share) (sym c.in_ok-one.ensures)
-      ∙ sym c.proves_at_most.ensures ∙ c.if-proves_at_most.false in
+    ap (λ (one : Combination). proves_at_most s.facts one (pos 0) p.share) (sym c.in_ok-one.ensures)
+    ∙ sym c.proves_at_most.ensures ∙ c.if-proves_at_most.false in
     ok_then c.failing.result bounds (fails Share ∷ []) (consume_cell c.args.rung p.at p.share (wanted_of p.value) c.args.env s)
-      (sym (not_one c.args.rung s p.at p.share (wanted_of p.value) c.args.env l)) c.failing.ensures
+    (sym (not_one c.args.rung s p.at p.share (wanted_of p.value) c.args.env l)) c.failing.ensures

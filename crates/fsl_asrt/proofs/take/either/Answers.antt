@@ -15,7 +15,7 @@ returns c =
     let out = c.in_ok-out.out in
     let more = c.in_ok-more.more in
     let low : bounds out ≡ none_left rung x k env s =
-      c.in_ok-out.ensures ∙ ap (λ (t : State). none_left rung x k c.in_ok-fork-2.field-0 t) c.in_ok-fork.ensures
-      ∙ ap (λ (e : Env). none_left rung x k e s) c.in_ok-fork-2.ensures in
+    c.in_ok-out.ensures ∙ ap (λ (t : State). none_left rung x k c.in_ok-fork-2.field-0 t) c.in_ok-fork.ensures
+    ∙ ap (λ (e : Env). none_left rung x k e s) c.in_ok-fork-2.ensures in
     ap bounds c.in_ok-append.ensures ∙ map-append bound_of out more
     ∙ ap (λ (r : Branches Env). r ++ bounds more) low ∙ ap (λ (r : Branches Env). none_left rung x k env s ++ r) c.in_ok-more.ensures

@@ -9,4 +9,4 @@ all_taken-requires c =
     let a = c.args.c.now.share in
     let b = c.args.share.now in
     still_points c.args.rung c.args.c.now.number s c.in-Goes.state c.requires
-      (goes_kept s (assume_at_most a (pos 0) b s) tt c.in-Goes.state (at_most_kept a (pos 0) b s) (went_is _ _ (assume_at_most a (pos 0) b s) c.in-Goes.is c.in_ok-state.ensures))
+    (goes_kept s (assume_at_most a (pos 0) b s) tt c.in-Goes.state (at_most_kept a (pos 0) b s) (went_is _ _ (assume_at_most a (pos 0) b s) c.in-Goes.is c.in_ok-state.ensures))

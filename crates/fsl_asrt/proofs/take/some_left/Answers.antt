@@ -9,4 +9,4 @@ part_taken-requires c =
     let a = c.args.share.now in
     let b = c.args.c.share in
     still_points c.args.rung c.args.c.number s c.in-Goes.state c.requires
-      (goes_kept s (assume_at_most a (pos 1) b s) tt c.in-Goes.state (at_most_kept a (pos 1) b s) (went_is _ _ (assume_at_most a (pos 1) b s) c.in-Goes.is c.in_ok-state.ensures))
+    (goes_kept s (assume_at_most a (pos 1) b s) tt c.in-Goes.state (at_most_kept a (pos 1) b s) (went_is _ _ (assume_at_most a (pos 1) b s) c.in-Goes.is c.in_ok-state.ensures))

@@ -17,8 +17,8 @@ returns-in-Found c =
     let cell = c.in-Found.cell in
     let t : IsTheCell rung p.at p.share s cell = subst (λ (r : Search). IsSearched rung p.at p.share s r) c.in-Found.is c.in_ok-cell.ensures in
     ok_then c.take.result bounds (taken_from rung cell p.share (wanted_of p.value) c.args.env s)
-      (consume_cell rung p.at p.share (wanted_of p.value) c.args.env s)
-      (consumed rung s t.found cell p.at p.share (wanted_of p.value) c.args.env t.same c.requires t.finds) c.take.ensures
+    (consume_cell rung p.at p.share (wanted_of p.value) c.args.env s)
+    (consumed rung s t.found cell p.at p.share (wanted_of p.value) c.args.env t.same c.requires t.finds) c.take.ensures
 
 pub returns-in-Lacks : goal.returns-in-Lacks
 returns-in-Lacks c =
@@ -28,4 +28,4 @@ returns-in-Lacks c =
     let kind = c.in-Lacks.kind in
     let m : find_cell rung p.at p.share s ≡ fails kind ∷ [] = subst (λ (r : Search). IsSearched rung p.at p.share s r) c.in-Lacks.is c.in_ok-cell.ensures in
     ok_then c.failing.result bounds (fails kind ∷ []) (consume_cell rung p.at p.share (wanted_of p.value) c.args.env s)
-      (sym (not_found rung s p.at p.share (wanted_of p.value) c.args.env kind c.requires m)) c.failing.ensures
+    (sym (not_found rung s p.at p.share (wanted_of p.value) c.args.env kind c.requires m)) c.failing.ensures

@@ -15,4 +15,4 @@ returns-then-is_constant c =
     let fits : SFits w128 (get_or ns 0 (pos 0)) = search rules in
     let v : listed ns ≡ normal (rows c.args.pure.now.facts) (part c.args.t.now) = rw c.eqs.ensures at c.fill.ensures.value in
     rw (to_z-of_z w128 (get_or ns 0 (pos 0)) fits)
-      (number_is (listed ns) c.args.pure.now.facts c.args.t.now v (sym c.is_constant.ensures ∙ c.if-is_constant.true))
+    (number_is (listed ns) c.args.pure.now.facts c.args.t.now v (sym c.is_constant.ensures ∙ c.if-is_constant.true))

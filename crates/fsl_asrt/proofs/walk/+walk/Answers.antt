@@ -20,8 +20,8 @@ walk-loop-branch-init t c =
       can = tt;
       finite = tt;
       so_far = first_choice c.args.way cond a b x c.args.rung c.args.env c.args.state c.new-out.result c.into_iter-branch-iterator.result.rest.items
-        c.in_ok-decided-in-Choice.decided c.new-out.ensures (c.into_iter-branch-iterator.ensures.into_iter_gives.0 ∙ c.into_vec-branch-items.ensures)
-        c.in_ok-decided-in-Choice.ensures level;
+          c.in_ok-decided-in-Choice.decided c.new-out.ensures (c.into_iter-branch-iterator.ensures.into_iter_gives.0 ∙ c.into_vec-branch-items.ensures)
+          c.in_ok-decided-in-Choice.ensures level;
     }
 
 pub walk-loop-part-preserved : goal.walk-loop-part-preserved
@@ -33,7 +33,7 @@ walk-loop-part-preserved t c =
     record {
       built = rest_built (drop i parts) (drop (i + 1) parts) part d c.loop-part.invariant.built;
       so_far = part_done c.args.way c.args.rung (drop i parts) (drop (i + 1) parts) part (bounds c.loop-part.branches) (bounds c.in_ok-branches-in-Both-2.branches)
-        (by_way c.args.way (asrt_of c.args.a.now) c.args.rung c.args.env c.args.state) d c.in_ok-branches-in-Both-2.ensures c.loop-part.invariant.so_far;
+          (by_way c.args.way (asrt_of c.args.a.now) c.args.rung c.args.env c.args.state) d c.in_ok-branches-in-Both-2.ensures c.loop-part.invariant.so_far;
     }
 
 pub walk-returns-after-loop-part : goal.walk-returns-after-loop-part
@@ -41,4 +41,4 @@ walk-returns-after-loop-part t c =
     let parts = c.as_slice-part-items.result.now in
     let i = c.loop-part.part-index in
     parts_done c.args.way c.args.rung (drop i parts) (bounds c.loop-part.branches)
-      (by_way c.args.way (asrt_of c.args.a.now) c.args.rung c.args.env c.args.state) (drop_of_length-le parts c.loop-part-test.false) c.loop-part.invariant.so_far
+    (by_way c.args.way (asrt_of c.args.a.now) c.args.rung c.args.env c.args.state) (drop_of_length-le parts c.loop-part-test.false) c.loop-part.invariant.so_far

@@ -20,14 +20,14 @@ invariant-walk-loop-branch l = record {
   can : (goal.iterator-walk-loop-branch).can_next l.branch-iterator;
   finite : (goal.iterator-walk-loop-branch).is_finite l.branch-iterator;
   so_far : bounds l.out ++ followed (decided l.branch-iterator.rest.items) (λ holds. by_way l.way (chosen (asrt_of l.yes) (asrt_of l.no) holds) l.rung l.env)
-    ≡ by_way l.way (asrt_of l.a) l.rung l.fn.env l.fn.state;
+      ≡ by_way l.way (asrt_of l.a) l.rung l.fn.env l.fn.state;
 }
 
 abbrev pub invariant-walk-loop-part : goal.invariant-walk-loop-part
 invariant-walk-loop-part l = record {
   built : list_all (λ part. part) (map is_built (drop l.part-index l.part-items)) ≡ true;
   so_far : followed (bounds l.branches) (all_by l.way (map asrt_of (drop l.part-index l.part-items)) l.rung)
-    ≡ by_way l.way (asrt_of l.a) l.rung l.fn.env l.fn.state;
+      ≡ by_way l.way (asrt_of l.a) l.rung l.fn.env l.fn.state;
 }
 
 abbrev pub invariant-each-loop-branch : goal.invariant-each-loop-branch
@@ -35,5 +35,5 @@ invariant-each-loop-branch l = record {
   can : (goal.iterator-each-loop-branch).can_next l.branch-iterator;
   finite : (goal.iterator-each-loop-branch).is_finite l.branch-iterator;
   so_far : bounds l.out ++ followed (bounds l.branch-iterator.rest.items) (by_way l.way (asrt_of l.a) l.rung)
-    ≡ followed (bounds l.fn.branches) (by_way l.way (asrt_of l.a) l.rung);
+      ≡ followed (bounds l.fn.branches) (by_way l.way (asrt_of l.a) l.rung);
 }
