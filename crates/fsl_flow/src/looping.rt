@@ -108,13 +108,13 @@ pub fn at_round(
     }
 }
 
-/// What holds at some round in which the body runs. It owns nothing but the invariant.
+/// What holds at some round in which the body runs, on a path of its own that owns nothing but the invariant.
 #[tactic(auto, using(crate::proofs::Contracting::body_so))]
-pub fn at_body(alloc: Global, state: State, x: &Round<'_>) -> Result<List<Branch>, AllocError>
+pub fn at_body(alloc: Global, state: &State, x: &Round<'_>) -> Result<List<Branch>, AllocError>
     requires { IsTrue (is_built x.now.inv.now) }
-    ensures { IfOk result (λ bs. branches bs ≡ body_round (cond_of expr_of x.now.cond.now) (asrt_of x.now.inv.now) x.now.declared (stmts_set x.now.body.now) state) }
+    ensures { IfOk result (λ bs. branches bs ≡ body_round (cond_of expr_of x.now.cond.now) (asrt_of x.now.inv.now) x.now.declared (stmts_set x.now.body.now) state.now) }
 {
-    let mut state = state;
-    state.drop_chunks(alloc)?;
-    at_round(alloc, state, x, true)
+    let mut own = state.fork(alloc)?;
+    own.drop_chunks(alloc)?;
+    at_round(alloc, own, x, true)
 }
