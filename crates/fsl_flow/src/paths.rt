@@ -40,7 +40,7 @@ pub fn outcome(alloc: Global, p: &Program, proc: u32) -> Result<Outcome, AllocEr
     let job = Job {
         program: p,
         number: proc,
-        proc: &p.procs.as_slice()[proc as usize],
+        proc: &p.procs()[proc as usize],
     };
     judge(alloc, &job)
 }

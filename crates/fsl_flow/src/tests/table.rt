@@ -219,7 +219,7 @@ fn statements_fail_at_their_places(rt: HostRuntime) -> Result<(), AllocError> {
     );
     let call = Act::Call {
         slot: None,
-        proc: 0,
+        proc: 1,
         args: List::new(alloc),
     };
     assert_eq!(rt;
@@ -314,7 +314,8 @@ fn procedures_are_named_by_number(rt: HostRuntime) -> Result<(), AllocError> {
     assert_eq!(rt; of_three(alloc, 0)?, derived(1));
     assert_eq!(rt; of_three(alloc, 1)?, fails_in(1, 4, Kind::Assert));
     assert_eq!(rt; of_three(alloc, 2)?, derived(2));
-    assert_eq!(rt; of_three(alloc, 3)?, None);
+    assert_eq!(rt; of_three(alloc, 3)?, derived(1), "`main`");
+    assert_eq!(rt; of_three(alloc, 4)?, None);
     Ok(())
 }
 

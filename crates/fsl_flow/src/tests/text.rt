@@ -113,17 +113,21 @@ pub fn proc(
     })
 }
 
-/// The outcome of a procedure, or nothing where the rules do not cover the program.
+/// The outcome of a procedure beside an empty `main`, or nothing where the rules do not cover the program.
 pub fn judged(
     alloc: Global,
     procs: List<Proc>,
     number: u32,
 ) -> Result<Option<Outcome>, AllocError> {
-    let p = Program {
-        invs: List::new(alloc),
-        procs,
+    let mut procs = procs;
+    let mut main = proc(alloc, 0, Asrt::Emp, Asrt::Emp, List::new(alloc))?;
+    main.name = Text::from_str(alloc, "main")?;
+    procs.push(main)?;
+    // a program that is not well formed fails the test
+    let Some(p) = Program::new(List::new(alloc), procs) else {
+        return Err(AllocError);
     };
-    if built(&p) && (number as usize) < p.procs.len() {
+    if built(&p) && (number as usize) < p.procs().len() {
         Ok(Some(outcome(alloc, &p, number)?))
     } else {
         Ok(None)

@@ -1,19 +1,9 @@
-//! Equality of programs.
+//! Equality of invariants and procedures.
 ghost use Rattle.std.specs.Prelude.{◌≡◌, IsTrue, ◌↔◌};
 
-use crate::program::{Inv, Proc, Program};
+use crate::declaration::{Inv, Proc};
 use crate::same::same_items;
 use fsl_base::Same;
-
-impl Program {
-    /// Whether two programs are equal, names and places included. It takes no memory.
-    pub fn same(&self, o: &Program) -> bool
-        ensures { IsTrue result ↔ (self.now ≡ o.now) }
-    {
-        same_items(self.invs.as_slice(), o.invs.as_slice())
-            && same_items(self.procs.as_slice(), o.procs.as_slice())
-    }
-}
 
 impl Same for Inv {
     fn same(&self, other: &Inv) -> bool

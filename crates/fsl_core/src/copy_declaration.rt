@@ -1,21 +1,10 @@
-//! Copies of programs.
+//! Copies of invariants and procedures.
 ghost use Rattle.std.specs.Prelude.{◌≡◌, IfOk};
 
 use crate::assertion::Asrt;
-use crate::program::{Inv, Proc, Program};
+use crate::declaration::{Inv, Proc};
 use fsl_base::{List, Text, TryClone};
 use std::alloc::{AllocError, Global};
-
-impl Program {
-    /// An equal program. It fails for want of memory alone.
-    pub fn copy(&self, alloc: Global) -> Result<Program, AllocError>
-        ensures { IfOk result (λ copy. copy ≡ self.now) }
-    {
-        let invs = self.invs.try_clone(alloc)?;
-        let procs = self.procs.try_clone(alloc)?;
-        Ok(Program { invs, procs })
-    }
-}
 
 impl TryClone for Inv {
     fn try_clone(&self, alloc: Global) -> Result<Inv, AllocError>
