@@ -1,4 +1,4 @@
-use Rattle.std.proofs.Common.{◌≡◌, ℕ, ◌==◌, true, [], ◌∷◌, Option, is_some, IfSome, ◌∙◌, ap, sym, subst}
+use Rattle.std.proofs.Common.{◌≡◌, ℕ, ◌==◌, true, false, [], ◌∷◌, Option, is_some, IfSome, ◌∙◌, ap, sym, subst}
 use Rattle.std.specs.List.{list_any}
 use Rattle.fsl_core.specs.logic.States.{State, goes, set}
 use Rattle.fsl_chunk.specs.Branches.{branches_made}
@@ -22,7 +22,6 @@ loop-number-preserved c =
         ap (λ (x : State). goes tt x ∷ []) w.state-is
         ∙ renew_goes n slots s t w.in-Goes.state w.set.new.self w.in-Goes.symbol is_set c.loop-number.invariant made put
     | in_default w ↦
-        let h = w.state-is in
-        let i = w.in_default in
-        ?
+        let unset : list_any (λ slot. slot == n) slots ≡ false = sym c.set_among.ensures.found ∙ ap is_some w.in_default.is in
+        ap (λ (x : State). goes tt x ∷ []) w.state-is ∙ renew_skips n slots s t unset c.loop-number.invariant
     ]
