@@ -62,7 +62,7 @@ pub fn judged<R: Threads + Sync>(
 ) -> Result<Verdict, AllocError>
     requires { (1 ≤ workers) × (workers ≤ 64) }
 {
-    if !built(program) || program.procs.len() == 0 {
+    if !built(program) || program.procs().is_empty() {
         return Err(AllocError);
     }
     let known = outcome(alloc, program, 0)?;

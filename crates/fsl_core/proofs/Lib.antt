@@ -1,4 +1,5 @@
 pub mod Distinct
+pub mod Blocks
 pub mod JudgedCells
 pub mod JudgedFences
 pub mod JudgedMessages

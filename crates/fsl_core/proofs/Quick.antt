@@ -12,8 +12,8 @@ use Rattle.fsl_core.specs.declared.expr.Expr.{Expr}
 use Rattle.fsl_core.specs.declared.expr.Expr.TheFolds.{fold-Part, fold_out-Expr, fold_out-Part, map-Expr, map-Part}
 use Rattle.fsl_core.specs.declared.expr.Expr.TheViews.{out-Expr, out-Part}
 use Rattle.fsl_core.specs.declared.expr.Part.{Part}
-use Rattle.fsl_core.specs.declared.program.Proc.{Proc}
-use Rattle.fsl_core.specs.declared.program.Program.{Program}
+use Rattle.fsl_core.specs.declared.declaration.Proc.{Proc}
+use Rattle.fsl_core.specs.Programs.{Program}
 use Rattle.fsl_core.specs.declared.verdict.Outcome.{Outcome}
 use Rattle.fsl_core.specs.declared.verdict.Outcome.TheVariants.{Derived, Fails}
 use Rattle.fsl_core.specs.declared.verdict.Verdict.{Verdict}

@@ -1,11 +1,14 @@
 pub mod Conditions
 pub mod Facts
+pub mod Marks
 pub mod Moves
 pub mod Paths
+pub mod Programs
 pub mod Rules
 pub mod States
 pub mod Straight
 pub mod Terms
 pub mod Values
 pub mod Verdicts
+pub mod WellFormed
 pub mod logic

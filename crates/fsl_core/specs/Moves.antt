@@ -24,8 +24,8 @@ use Rattle.fsl_core.specs.declared.need.RmwOp.TheVariants as op
 use Rattle.fsl_core.specs.declared.need.Standing.{Standing}
 use Rattle.fsl_core.specs.declared.need.Standing.TheVariants as standing
 use Rattle.fsl_core.specs.declared.need.Started.{Started}
-use Rattle.fsl_core.specs.declared.program.Proc.{Proc}
-use Rattle.fsl_core.specs.declared.program.Program.{Program}
+use Rattle.fsl_core.specs.declared.declaration.Proc.{Proc}
+use Rattle.fsl_core.specs.Programs.{Program}
 use Rattle.fsl_core.specs.Values.{in_range, value_of, holds_of, with_value}
 
 -- the values of the variables

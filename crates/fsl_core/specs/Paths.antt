@@ -7,7 +7,7 @@ use Rattle.fsl_core.specs.declared.act.Act.TheOpen.{Act-F, Stmt-F}
 use Rattle.fsl_core.specs.declared.act.Act.TheFolds.{fold-Act, fold-Stmt}
 use Rattle.fsl_core.specs.declared.act.Stmt.{Stmt}
 use Rattle.fsl_core.specs.declared.mode.Mode.TheVariants.{Na}
-use Rattle.fsl_core.specs.declared.program.Proc.{Proc}
+use Rattle.fsl_core.specs.declared.declaration.Proc.{Proc}
 use Rattle.fsl_core.specs.declared.verdict.Kind.{Kind}
 use Rattle.fsl_core.specs.Conditions.{proved}
 use Rattle.fsl_core.specs.Rules.{Rule, given_term, set, alloc_na, load_na, store_na, asserting, goes_on}

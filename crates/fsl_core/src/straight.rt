@@ -6,9 +6,10 @@ ghost use Rattle.fsl_core.specs.Straight.{is_sum, is_equation, is_straight_act, 
 
 use crate::act::{Act, Stmt};
 use crate::assertion::Asrt;
+use crate::declaration::Proc;
 use crate::expr::{CmpOp, Cond, Expr};
 use crate::mode::Mode;
-use crate::program::{Proc, Program};
+use crate::program::Program;
 
 /// The most slots that a procedure has.
 const MAX_SLOTS: usize = 256;
@@ -116,7 +117,7 @@ fn set_distinct(body: &[Stmt], slots: u32) -> bool
 }
 
 /// Whether an assertion is `emp`.
-fn is_emp(asrt: &Asrt) -> bool
+pub(crate) fn is_emp(asrt: &Asrt) -> bool
     ensures { result ≡ is_emp asrt.now }
 {
     match asrt {
@@ -142,5 +143,5 @@ fn is_straight_proc(proc: &Proc) -> bool
 pub fn is_straight(p: &Program) -> bool
     ensures { result ≡ is_straight p.now }
 {
-    p.invs.is_empty() && p.procs.len() == 1 && is_straight_proc(&p.procs.as_slice()[0])
+    p.invs().is_empty() && p.procs().len() == 1 && is_straight_proc(&p.procs()[0])
 }

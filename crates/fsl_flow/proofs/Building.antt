@@ -4,8 +4,8 @@ use Rattle.std.specs.List.{list_all}
 use Rattle.std.proofs.lemmas.Bool.{and_parts}
 use Rattle.fsl_core.specs.declared.act.Act.TheFolds.{fold_out-Stmt}
 use Rattle.fsl_core.specs.declared.act.Stmt.{Stmt}
-use Rattle.fsl_core.specs.declared.program.Proc.{Proc}
-use Rattle.fsl_core.specs.declared.program.Program.{Program}
+use Rattle.fsl_core.specs.declared.declaration.Proc.{Proc}
+use Rattle.fsl_core.specs.Programs.{Program}
 use Rattle.fsl_core.specs.Straight.{is_empty}
 use Rattle.fsl_asrt.specs.Built as assertions
 use Rattle.fsl_flow.specs.Built.{built_step, is_built_act, is_built_stmt, are_built, is_built_proc, is_built}

@@ -1,11 +1,7 @@
-pub mod Assumed
 pub mod Building
 pub mod Contracting
 pub mod Ending
-pub mod Equal
 pub mod Following
-pub mod Last
-pub mod Laws
 pub mod Leaving
 pub mod Owning
 pub mod Padding
@@ -13,6 +9,4 @@ pub mod Scanning
 pub mod Setting
 pub mod Slots
 pub mod Stepping
-pub mod Straight
-pub mod Symbols
 pub mod Walking

@@ -1,9 +1,6 @@
 pub mod Built
-pub mod Cells
-pub mod Known
 pub mod Owned
 pub mod Rests
 pub mod Rounds
 pub mod Sets
 pub mod Simple
-pub mod Steps

@@ -61,5 +61,5 @@ fn are_built_procs(procs: &[Proc]) -> bool
 pub fn built(p: &Program) -> bool
     ensures { result ≡ is_built p.now }
 {
-    p.invs.is_empty() && are_built_procs(p.procs.as_slice())
+    p.invs().is_empty() && are_built_procs(p.procs())
 }

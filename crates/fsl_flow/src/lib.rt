@@ -2,22 +2,16 @@
 #![tactic(auto)]
 
 mod accesses;
-mod cell;
 mod contract;
 mod covered;
 mod job;
-mod known;
 mod looping;
-mod outcomes;
-pub mod paths;
+mod paths;
 mod rest;
-mod rules;
 mod sets;
-mod state;
 mod statements;
-mod stop;
-mod term;
 #[cfg(test)]
 mod tests;
 
-pub use outcomes::{built, outcome};
+pub use covered::built;
+pub use paths::outcome;

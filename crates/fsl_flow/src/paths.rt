@@ -12,7 +12,6 @@ ghost use Rattle.fsl_flow.specs.Rests.{ends_behind, block_ends, act_ends, each_e
 ghost use Rattle.fsl_flow.specs.Simple.{is_simple};
 
 use crate::contract::{close, enter, give_inv, return_with};
-pub use crate::covered::built;
 use crate::job::Job;
 use crate::looping::{at_body, at_round, decide};
 use crate::rest::{Rest, Round};
@@ -41,7 +40,7 @@ pub fn outcome(alloc: Global, p: &Program, proc: u32) -> Result<Outcome, AllocEr
     let job = Job {
         program: p,
         number: proc,
-        proc: &p.procs.as_slice()[proc as usize],
+        proc: &p.procs()[proc as usize],
     };
     judge(alloc, &job)
 }

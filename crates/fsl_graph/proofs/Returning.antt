@@ -9,8 +9,8 @@ use Rattle.fsl_core.specs.declared.mode.Mode.{Mode}
 use Rattle.fsl_core.specs.declared.need.Reply.{Reply}
 use Rattle.fsl_core.specs.declared.need.Reply.TheVariants as reply
 use Rattle.fsl_core.specs.declared.need.Started.{Started}
-use Rattle.fsl_core.specs.declared.program.Proc.{Proc}
-use Rattle.fsl_core.specs.declared.program.Program.{Program}
+use Rattle.fsl_core.specs.declared.declaration.Proc.{Proc}
+use Rattle.fsl_core.specs.Programs.{Program}
 use Rattle.fsl_core.specs.Values.{in_range, value_of, holds_of}
 use Rattle.fsl_core.specs.Moves.{Frame, Config, running, joining, returned, halted, failed, Moved, Move, showing, given, entered, read_reply, place_reply, threads_reply, results_reply, added, branching, after_assert, ending, returning, entering, calling, forking, with_stmts, act_move, frame_move, move_of, started_at, started_of, arguments_of}
 

@@ -13,8 +13,8 @@ use Rattle.fsl_core.specs.declared.need.Need.TheVariants as need
 use Rattle.fsl_core.specs.declared.need.Reply.{Reply}
 use Rattle.fsl_core.specs.declared.need.Reply.TheVariants as reply
 use Rattle.fsl_core.specs.declared.need.Started.{Started}
-use Rattle.fsl_core.specs.declared.program.Proc.{Proc}
-use Rattle.fsl_core.specs.declared.program.Program.{Program}
+use Rattle.fsl_core.specs.declared.declaration.Proc.{Proc}
+use Rattle.fsl_core.specs.Programs.{Program}
 use Rattle.fsl_core.specs.Moves.{Config, returned, showing, moved, need_of, start_of}
 use Rattle.fsl_graph.specs.declared.event.Event.{Event}
 use Rattle.fsl_graph.specs.declared.graph.Graph.{Graph}

@@ -8,8 +8,8 @@ use Rattle.fsl_core.specs.declared.act.Act.TheViews.{out-Act}
 use Rattle.fsl_core.specs.declared.act.Act.TheFolds.{fold-Stmt, fold_out-Act, map-Act}
 use Rattle.fsl_core.specs.declared.act.Stmt.{Stmt}
 use Rattle.fsl_core.specs.declared.mode.Mode.TheVariants as mode
-use Rattle.fsl_core.specs.declared.program.Proc.{Proc}
-use Rattle.fsl_core.specs.declared.program.Program.{Program}
+use Rattle.fsl_core.specs.declared.declaration.Proc.{Proc}
+use Rattle.fsl_core.specs.Programs.{Program}
 use Rattle.fsl_core.specs.Moves.{Move, Frame, Config, given, branching, act_move, frame_move, move_of}
 use Rattle.fsl_core.specs.Straight.{Test, straight_step, is_straight_act, is_straight_proc, is_one_straight, is_straight, is_empty}
 use Rattle.fsl_core.specs.Values.{value_of, holds_of}

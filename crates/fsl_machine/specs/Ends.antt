@@ -2,7 +2,7 @@
 use Rattle.std.specs.Prelude.{ℕ, ◌≡◌, ◌<◌, ◌≤◌, ◌+◌, ◌⊎◌, nat_le, nat_lt, length, Option, Some, None, ℤ, if◌then◌else◌}
 use Rattle.fsl_core.specs.declared.need.Need.{Need}
 use Rattle.fsl_core.specs.declared.need.Need.TheVariants as need
-use Rattle.fsl_core.specs.declared.program.Program.{Program}
+use Rattle.fsl_core.specs.Programs.{Program}
 use Rattle.fsl_core.specs.Moves.{Config, running, joining, returned, halted, failed, need_of}
 use Rattle.fsl_graph.specs.declared.graph.Graph.{Graph}
 use Rattle.fsl_machine.specs.declared.ends.End.{End}

@@ -1,6 +1,6 @@
 -- What a machine keeps.
 use Rattle.std.specs.Prelude.{ℕ, ◌≡◌, ◌≤◌, true, [], length}
-use Rattle.fsl_core.specs.declared.program.Program.{Program}
+use Rattle.fsl_core.specs.Programs.{Program}
 use Rattle.fsl_core.specs.Moves.{start_of}
 use Rattle.fsl_core.specs.Straight.{is_straight}
 use Rattle.fsl_graph.specs.Execution.{Runs, events_of}

@@ -2,7 +2,7 @@
 use Rattle.std.specs.Prelude.{ℕ, ◌+◌, List, [], ◌∷◌, Option, Some, None}
 use Rattle.fsl_core.specs.declared.label.Label.{Label}
 use Rattle.fsl_core.specs.declared.need.Need.{Need}
-use Rattle.fsl_core.specs.declared.program.Program.{Program}
+use Rattle.fsl_core.specs.Programs.{Program}
 use Rattle.fsl_core.specs.Moves.{Config, Moved, need_of, moved, start_of}
 use Rattle.fsl_graph.specs.declared.graph.Graph.{Graph}
 use Rattle.fsl_graph.specs.declared.graph.Thread.{Thread}

@@ -1,7 +1,7 @@
 //! The machine: a program with the moves that its thread has made.
 ghost use Rattle.std.specs.Prelude.{◌≡◌, ◌<◌, ◌≤◌, length, IfOk, IfSome, IfNone, IsTrue, if◌then◌else◌};
 ghost use Rattle.fsl_core.specs.Straight.{is_straight};
-ghost use Rattle.fsl_core.specs.declared.program.Program.{Program};
+ghost use Rattle.fsl_core.specs.Programs.{Program};
 ghost use Rattle.fsl_moves.specs.Configs.{config_of};
 ghost use Rattle.fsl_graph.specs.Consistent.{IsConsistent};
 ghost use Rattle.fsl_graph.specs.Execution.{IsExecution};

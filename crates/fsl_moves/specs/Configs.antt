@@ -2,8 +2,8 @@
 -- stand for.
 use Rattle.std.specs.Prelude.{ℕ, ◌≡◌, ◌≤◌, slice_get, List, [], length, Option, Some, None, drop}
 use Rattle.fsl_core.specs.declared.act.Stmt.{Stmt}
-use Rattle.fsl_core.specs.declared.program.Proc.{Proc}
-use Rattle.fsl_core.specs.declared.program.Program.{Program}
+use Rattle.fsl_core.specs.declared.declaration.Proc.{Proc}
+use Rattle.fsl_core.specs.Programs.{Program}
 use Rattle.fsl_core.specs.Moves as moves
 use Rattle.fsl_core.specs.Moves.{Values, Frame, Move, act_move}
 use Rattle.fsl_core.specs.declared.act.Act.TheViews.{out-Act}

@@ -1,6 +1,6 @@
 //! Configurations: where a thread stands in its program, or how it has ended.
 ghost use Rattle.std.specs.Prelude.{◌≡◌};
-ghost use Rattle.fsl_core.specs.declared.program.Program.{Program};
+ghost use Rattle.fsl_core.specs.Programs.{Program};
 ghost use Rattle.fsl_core.specs.Moves.{standing_of};
 ghost use Rattle.fsl_moves.specs.Configs.{config_of};
 

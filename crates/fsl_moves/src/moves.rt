@@ -19,7 +19,7 @@ pub fn start(alloc: Global, p: &Program, proc: u32, args: &[i64]) -> Result<Conf
     ensures starts { IfOk result (λ c. config_of p.now c ≡ start_of p.now proc args.now) }
     ensures fits { IfOk result (Fits p.now) }
 {
-    let slots = p.procs.as_slice()[proc as usize].slots;
+    let slots = p.procs()[proc as usize].slots;
     let mut env = List::from_slice(alloc, args)?;
     for _slot in args.len()..slots as usize {
         env.push(0)?;
@@ -32,7 +32,7 @@ fn body_of(p: &Program, proc: u32) -> &[Stmt]
     requires { proc < length p.now.procs }
     ensures { result.now ≡ body_of (slice_get p.now.procs proc) }
 {
-    p.procs.as_slice()[proc as usize].body.as_slice()
+    p.procs()[proc as usize].body.as_slice()
 }
 
 /// What the next move asks. It finds memory always: only a Fork of other programs would take some.

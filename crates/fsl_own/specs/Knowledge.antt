@@ -4,7 +4,7 @@ use Rattle.std.specs.Prelude.{ℕ, ◌≡◌, true, List, ◌∷◌, ℤ, map}
 use Rattle.fsl_core.specs.declared.label.Ended.{Ended}
 use Rattle.fsl_core.specs.declared.label.Label.TheVariants as label
 use Rattle.fsl_core.specs.declared.mode.Mode.{Mode}
-use Rattle.fsl_core.specs.declared.program.Program.{Program}
+use Rattle.fsl_core.specs.Programs.{Program}
 use Rattle.fsl_core.specs.Moves.{Config}
 use Rattle.fsl_graph.specs.declared.event.Event.{Event}
 use Rattle.fsl_graph.specs.declared.graph.Graph.{Graph}

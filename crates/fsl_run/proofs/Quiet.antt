@@ -7,8 +7,8 @@ use Rattle.fsl_core.specs.declared.act.Stmt.{Stmt}
 use Rattle.fsl_core.specs.declared.need.Need.TheVariants as need
 use Rattle.fsl_core.specs.declared.need.Reply.{Reply}
 use Rattle.fsl_core.specs.declared.need.Started.{Started}
-use Rattle.fsl_core.specs.declared.program.Proc.{Proc}
-use Rattle.fsl_core.specs.declared.program.Program.{Program}
+use Rattle.fsl_core.specs.declared.declaration.Proc.{Proc}
+use Rattle.fsl_core.specs.Programs.{Program}
 use Rattle.fsl_core.specs.Values.{value_of, holds_of}
 use Rattle.fsl_core.specs.Moves.{Frame, Config, running, joining, returned, halted, failed, Move, given, entered, branching, returning, entering, calling, forking, with_stmts, act_move, frame_move, move_of, started_of, arguments_of}
 

@@ -3,7 +3,7 @@ use Rattle.std.proofs.Common.{arith, ◌≡◌, ℕ, inl, inr, List, Some, None,
 use Rattle.std.proofs.lemmas.Option.{slice_get_cases}
 use Rattle.fsl_core.specs.declared.need.Need.TheVariants as need
 use Rattle.fsl_core.specs.declared.need.Reply.TheVariants as reply
-use Rattle.fsl_core.specs.declared.program.Program.{Program}
+use Rattle.fsl_core.specs.Programs.{Program}
 use Rattle.fsl_core.specs.Moves.{Config, Moved, showing, moved, need_of}
 use Rattle.fsl_graph.specs.declared.event.Event.{Event}
 use Rattle.fsl_graph.specs.declared.graph.Graph.{Graph}

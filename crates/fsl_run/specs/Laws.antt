@@ -1,6 +1,6 @@
 -- A graph of a program says how its threads stand after it, and has the cause of one end alone.
 use Rattle.std.specs.Prelude.{ℕ, ◌≡◌, ◌<◌, length}
-use Rattle.fsl_core.specs.declared.program.Program.{Program}
+use Rattle.fsl_core.specs.Programs.{Program}
 use Rattle.fsl_core.specs.Moves.{Config}
 use Rattle.fsl_graph.specs.declared.graph.Graph.{Graph}
 use Rattle.fsl_graph.specs.Execution.{IsExecution}

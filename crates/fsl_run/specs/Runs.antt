@@ -1,6 +1,6 @@
 -- What a run of a program gives.
 use Rattle.std.specs.Prelude.{ℕ}
-use Rattle.fsl_core.specs.declared.program.Program.{Program}
+use Rattle.fsl_core.specs.Programs.{Program}
 use Rattle.fsl_core.specs.Moves.{Config}
 use Rattle.fsl_graph.specs.declared.graph.Graph.{Graph}
 use Rattle.fsl_graph.specs.Consistent.{IsConsistent}

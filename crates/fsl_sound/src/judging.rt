@@ -22,7 +22,7 @@ impl<'a> Work for Procedures<'a> {
     ghost outcomes = { λ work. outcomes_from 0 work.program.now.procs };
 
     fn units(&self) -> u32 {
-        self.program.procs.len() as u32
+        self.program.procs().len() as u32
     }
 
     fn outcome(&self, alloc: Global, unit: u32) -> Result<Outcome, AllocError> {

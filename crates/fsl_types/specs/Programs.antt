@@ -6,9 +6,9 @@ use Rattle.std.specs.Option.{is_some, is_none}
 use Rattle.std.specs.Str.{is_utf8}
 use Rattle.fsl_base.specs.declared.span.Span.{Span}
 use Rattle.fsl_core.specs.declared.assertion.Asrt.{Asrt}
-use Rattle.fsl_core.specs.declared.program.Inv.{Inv}
-use Rattle.fsl_core.specs.declared.program.Proc.{Proc}
-use Rattle.fsl_core.specs.declared.program.Program.{Program}
+use Rattle.fsl_core.specs.declared.declaration.Inv.{Inv}
+use Rattle.fsl_core.specs.declared.declaration.Proc.{Proc}
+use Rattle.fsl_core.specs.Programs.{Program}
 use Rattle.fsl_tree.specs.declared.declaration.Declaration.{Declaration}
 use Rattle.fsl_tree.specs.declared.declaration.Declaration.TheVariants as declarations
 use Rattle.fsl_tree.specs.declared.declaration.Invariant.{Invariant}

@@ -1,6 +1,6 @@
 -- What it is for bytes to be a program.
 use Rattle.std.specs.Prelude.{◌≡◌, ◌≤◌, ℕ, false, List, [], Ok}
-use Rattle.fsl_core.specs.declared.program.Program.{Program}
+use Rattle.fsl_core.specs.Programs.{Program}
 use Rattle.fsl_token.specs.Tokens.{lexed}
 use Rattle.fsl_tree.specs.declared.file.File.{File}
 use Rattle.fsl_tree.specs.Nesting.{nesting}

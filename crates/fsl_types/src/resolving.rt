@@ -235,7 +235,10 @@ pub fn resolve(alloc: Global, bytes: &[u8], file: &File) -> Result<Program, Type
                 faults,
             },
         ) => match least_fault(faults.as_slice()) {
-            None => Ok(Program { invs, procs }),
+            None => match Program::new(invs, procs) {
+                Some(p) => Ok(p),
+                None => unreachable!(),
+            },
             Some(Fault { kind, span }) => Err(TypeFault::Fault { kind, span }),
         },
         Err(_) => Err(TypeFault::NoMemory),

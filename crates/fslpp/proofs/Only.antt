@@ -1,6 +1,6 @@
 -- The bytes of a file spell no other tree, and so are no other program.
 use Rattle.std.proofs.Common.{◌≡◌, ◌≤◌, ℕ, false, List, [], Result, Ok, sym, ap, ◌∙◌}
-use Rattle.fsl_core.specs.declared.program.Program.{Program}
+use Rattle.fsl_core.specs.Programs.{Program}
 use Rattle.fsl_token.specs.declared.fault.LexFault.{LexFault}
 use Rattle.fsl_token.specs.declared.kind.Token.{Token}
 use Rattle.fsl_token.specs.Tokens.{lexed}

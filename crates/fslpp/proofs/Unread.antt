@@ -3,7 +3,7 @@
 use Rattle.std.proofs.Common.{◌≡◌, ◌≤◌, inl, inr, Bool, true, false, ℕ, List, [], Result, Ok, Err, Option, Some, None, length, sym, ap, ◌∙◌}
 use Rattle.std.specs.Prelude.{IsTrue}
 use Rattle.fsl_base.specs.declared.span.Span.{Span}
-use Rattle.fsl_core.specs.declared.program.Program.{Program}
+use Rattle.fsl_core.specs.Programs.{Program}
 use Rattle.fsl_core.specs.Straight.{is_straight}
 use Rattle.fsl_parse.specs.declared.fault.ParseFault.TheVariants as parse_faults
 use Rattle.fsl_parse.specs.Refusal.{IsNoFile, IsPlaced}

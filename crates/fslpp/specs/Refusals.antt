@@ -1,7 +1,7 @@
 -- Why bytes are no program that the rules cover: no tokens, no tree, a fault of names and types, or a program past the
 -- rules. At most one of these applies, as the tokens are the bytes' only ones and the tree is the tokens' only one.
 use Rattle.std.specs.Prelude.{◌≡◌, ◌⊎◌, ℕ, true, false, List, [], length, Some, Ok, Err, IsTrue}
-use Rattle.fsl_core.specs.declared.program.Program.{Program}
+use Rattle.fsl_core.specs.Programs.{Program}
 use Rattle.fsl_core.specs.Straight.{is_straight}
 use Rattle.fsl_parse.specs.declared.fault.ParseFault.TheVariants as parse_faults
 use Rattle.fsl_parse.specs.Refusal.{IsPlaced}

@@ -1,8 +1,8 @@
 -- The texts of answers. Each ends with a line feed.
 use Rattle.std.specs.Prelude.{ℕ, List, [], ◌∷◌, ◌++◌, codes, slice_get, Option, Some, None}
 use Rattle.std.specs.Fmt.{decimal}
-use Rattle.fsl_core.specs.declared.program.Program.{Program}
-use Rattle.fsl_core.specs.declared.program.Proc.{Proc}
+use Rattle.fsl_core.specs.Programs.{Program}
+use Rattle.fsl_core.specs.declared.declaration.Proc.{Proc}
 use Rattle.fsl_core.specs.declared.verdict.Kind.{Kind}
 use Rattle.fsl_core.specs.declared.verdict.Kind.TheVariants.{Uninit, Points, Share, Value, Init, Rel, Acq, Rmw, Token, Assert, Cond, Pre, Post, Loop, Paths, Symbols, Chunks, Term}
 use Rattle.fsl_core.specs.declared.verdict.Verdict.{Verdict}

@@ -3,7 +3,7 @@ ghost use Rattle.std.specs.Prelude.{◌≡◌, ◌≤◌, ◌++◌, codes, lengt
 ghost use Rattle.std.specs.Fmt.{decimal};
 ghost use Rattle.fslpp.specs.Texts.{failed_text, kind_word, name_of, verdict_text};
 
-use fsl_base::{List, Text};
+use fsl_base::Text;
 use fsl_core::{Kind, Proc, Program, Verdict};
 use fsl_token::{Place, place};
 use std::alloc::{AllocError, Global};
@@ -44,7 +44,7 @@ fn kind_word(kind: Kind) -> &'static str
 }
 
 /// The name of a procedure, nothing for a number that none has.
-fn name_of(procs: &List<Proc>, number: u32) -> &str
+fn name_of(procs: &[Proc], number: u32) -> &str
     ensures { result.now ≡ name_of procs.now number }
 {
     match procs.get(number as usize) {
@@ -83,7 +83,7 @@ pub fn verdict_text(
         Verdict::Accepted { procs } => accepted_text(alloc, *procs),
         Verdict::Failed { proc, span, kind } => failed_text(
             alloc,
-            name_of(&p.procs, *proc),
+            name_of(p.procs(), *proc),
             place(bytes, span.from),
             *kind,
         ),

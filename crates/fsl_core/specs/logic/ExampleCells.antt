@@ -3,7 +3,7 @@ use Rattle.std.specs.Prelude.{[], ◌∷◌, codes}
 use Rattle.fsl_core.specs.declared.act.Act.TheOpen.{Act-F}
 use Rattle.fsl_core.specs.declared.assertion.Pat.TheVariants as pat
 use Rattle.fsl_core.specs.declared.mode.Mode.TheVariants as mode
-use Rattle.fsl_core.specs.declared.program.Program.{Program}
+use Rattle.fsl_core.specs.Programs.{Program}
 use Rattle.fsl_core.specs.logic.Words.{num, var, plus, sum, equal, less, more, at_most, nothing, fact, points, both, span, at, proc, program}
 
 -- A cell is loaded before it is stored.

@@ -3,7 +3,7 @@ use Rattle.std.specs.Prelude.{false, [], ◌∷◌, codes}
 use Rattle.fsl_core.specs.declared.act.Act.TheOpen.{Act-F}
 use Rattle.fsl_core.specs.declared.assertion.Pat.TheVariants as pat
 use Rattle.fsl_core.specs.declared.mode.Mode.TheVariants as mode
-use Rattle.fsl_core.specs.declared.program.Program.{Program}
+use Rattle.fsl_core.specs.Programs.{Program}
 use Rattle.fsl_core.specs.logic.Words.{num, var, all_shares, equal, unequal, inst, nothing, points, init, rel, acq, choice, down, both, span, at, thread, inv, proc, program}
 
 -- The store is relaxed, and no release fence stands before it.

@@ -4,7 +4,7 @@ use Rattle.fsl_core.specs.declared.act.Act.TheOpen.{Act-F}
 use Rattle.fsl_core.specs.declared.assertion.Pat.TheVariants as pat
 use Rattle.fsl_core.specs.declared.expr.Cond.TheVariants as cond
 use Rattle.fsl_core.specs.declared.mode.Mode.TheVariants as mode
-use Rattle.fsl_core.specs.declared.program.Program.{Program}
+use Rattle.fsl_core.specs.Programs.{Program}
 use Rattle.fsl_core.specs.logic.Words.{num, minus_num, var, plus, minus, sum, product, all_shares, equal, unequal, more, inst, nothing, points, init, rel, rmw_acq, tok, auth, choice, up, both, span, at, mint, burn, thread, inv, proc, program}
 
 -- A location is updated that may not have been written. The amount of the step, which is no term, is not looked at yet.

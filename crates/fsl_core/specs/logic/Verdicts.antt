@@ -1,7 +1,7 @@
 -- Outcomes and verdicts: the first path that fails, and the first procedure.
 use Rattle.std.specs.Prelude.{ℕ, ◌+◌, List, [], ◌∷◌}
-use Rattle.fsl_core.specs.declared.program.Proc.{Proc}
-use Rattle.fsl_core.specs.declared.program.Program.{Program}
+use Rattle.fsl_core.specs.declared.declaration.Proc.{Proc}
+use Rattle.fsl_core.specs.Programs.{Program}
 use Rattle.fsl_core.specs.declared.verdict.Outcome.{Outcome}
 use Rattle.fsl_core.specs.declared.verdict.Verdict.{Verdict}
 use Rattle.fsl_core.specs.Paths.{End}
