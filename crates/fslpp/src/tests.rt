@@ -1,5 +1,6 @@
 //! Whole runs over a shelf and a sink in memory: what no clause says is that memory is found, and which bytes
 //! are which program.
+mod examples;
 mod limits;
 mod refusals;
 mod runs;
