@@ -1,9 +1,9 @@
 -- A cell that was found among the chunks, by its number.
-use Rattle.std.proofs.Common.{◌≡◌, ℕ, ◌<◌, Bool, true, false, ◌&&◌, List, [], ◌∷◌, ◌++◌, length, Option, Some, None, pos, remove, slice_get, slice_set, if◌then◌else◌, IfSome, refl, sym, ap, ◌∙◌}
+use Rattle.std.proofs.Common.{◌≡◌, ℕ, Bool, true, false, ◌&&◌, List, length, Option, Some, None, pos, slice_get, IfSome, refl, ap, ◌∙◌}
 use Rattle.std.proofs.lemmas.Bool.{and_parts}
 use Rattle.std.specs.Option.{option_map}
 use Rattle.fsl_asrt.specs.declared.cells.FoundCell.{FoundCell}
-use Rattle.fsl_asrt.specs.Cells.{cell_in, cell_of, IsPoints, IsFound, IsFoundBy}
+use Rattle.fsl_asrt.specs.Cells.{cell_in, cell_of, IsPoints, IsFoundBy}
 use Rattle.fsl_chunk.specs.Listed.{kind_of, rung_of}
 use Rattle.fsl_chunk.specs.Sought.{place}
 use Rattle.fsl_chunk.specs.declared.kind.ChunkKind.TheVariants.{Points}

@@ -1,12 +1,12 @@
 -- A share that joins the chunk of a number joins the cell that was found.
-use Rattle.std.proofs.Common.{◌≡◌, List, [], ◌∷◌, ◌++◌, Option, Some, None, pos, refl, sym, ap, ◌∙◌, append-nil}
+use Rattle.std.proofs.Common.{◌≡◌, List, [], ◌∷◌, Option, Some, None, pos, refl, sym, ap, ◌∙◌, append-nil}
 use Rattle.fsl_asrt.specs.declared.cells.FoundCell.{FoundCell}
 use Rattle.fsl_asrt.specs.Cells.{cell_of, IsFound, IsFoundBy, put_at, joined_at}
 use Rattle.fsl_asrt.proofs.Keeping.{followed_same, fitting_kept, at_most_kept, same_kept}
 use Rattle.fsl_core.specs.declared.chunk.Chunk.{Chunk}
 use Rattle.fsl_core.specs.declared.chunk.Chunk.TheVariants as chunk
 use Rattle.fsl_core.specs.declared.mode.Rung.{Rung}
-use Rattle.fsl_core.specs.logic.States.{State, goes, Branches, Action, ◌>>=◌, ◌>>◌}
+use Rattle.fsl_core.specs.logic.States.{State, goes, Action, ◌>>=◌, ◌>>◌}
 use Rattle.fsl_core.specs.logic.Terms.{fitting}
 use Rattle.fsl_core.specs.logic.Deciding.{assume_at_most}
 use Rattle.fsl_core.specs.logic.Chunks.{Cell, Found, first, put, add, cell_at, cell_chunk}

@@ -1,14 +1,14 @@
 -- Rules that keep the chunks, so that a chunk keeps its number on the way; and rules with one branch at most.
-use Rattle.std.proofs.Common.{◌≡◌, ℕ, Bool, true, false, List, [], ◌∷◌, ◌++◌, Option, Some, None, Result, Ok, Err, IfOk, ℤ, pos, if◌then◌else◌, refl, sym, ap, subst, ◌∙◌, append-nil}
+use Rattle.std.proofs.Common.{◌≡◌, ℕ, Bool, true, false, [], ◌∷◌, ◌++◌, Option, Some, None, Result, Ok, Err, IfOk, ℤ, pos, refl, sym, ap, subst, ◌∙◌, append-nil}
 use Rattle.fsl_asrt.specs.Cells.{IsPoints}
 use Rattle.fsl_chunk.specs.Branches.{branches}
 use Rattle.fsl_chunk.specs.declared.went.Went.{Went}
 use Rattle.fsl_core.specs.declared.mode.Rung.{Rung}
 use Rattle.fsl_core.specs.declared.verdict.Kind.{Kind}
 use Rattle.fsl_core.specs.declared.verdict.Kind.TheVariants as kind
-use Rattle.fsl_core.specs.logic.States.{State, goes, fails, Branches, Rule, Action, followed, ◌>>=◌, ◌>>◌, give, demand, demand_some}
-use Rattle.fsl_core.specs.logic.Terms.{fitting, narrow}
-use Rattle.fsl_core.specs.logic.Deciding.{has_room, assume, assume_at_most, assume_equal}
+use Rattle.fsl_core.specs.logic.States.{State, goes, fails, Branches, Rule, followed, give, demand, demand_some}
+use Rattle.fsl_core.specs.logic.Terms.{fitting}
+use Rattle.fsl_core.specs.logic.Deciding.{has_room, assume, assume_at_most}
 use Rattle.fsl_core.specs.logic.Joining.{assume_same}
 use Rattle.fsl_lin.specs.Combination.{Combination, plus, minus, constant, is_narrow}
 use Rattle.fsl_lin.specs.Facts.{absurd_facts}

@@ -1,12 +1,12 @@
 -- Rules that are followed, and conditions by their sides.
-use Rattle.std.proofs.Common.{◌≡◌, ℕ, Bool, true, false, List, [], ◌∷◌, ◌++◌, map, filter, Option, Some, None, refl, sym, ap, ◌∙◌, append_assoc, append-nil}
+use Rattle.std.proofs.Common.{◌≡◌, Bool, true, false, List, [], ◌∷◌, ◌++◌, map, filter, Option, Some, None, refl, sym, ap, ◌∙◌, append_assoc, append-nil}
 use Rattle.std.proofs.lemmas.List.{map-append}
 use Rattle.fsl_asrt.specs.declared.given.Side.{Side}
 use Rattle.fsl_asrt.specs.Sides.{side_of, sides_of}
 use Rattle.fsl_core.specs.declared.expr.CmpOp.{CmpOp}
 use Rattle.fsl_core.specs.declared.verdict.Kind.{Kind}
 use Rattle.fsl_core.specs.declared.verdict.Kind.TheVariants.{Term}
-use Rattle.fsl_core.specs.logic.States.{Env, State, Branch, goes, fails, Branches, Rule, followed, ◌>>=◌, give, done, demand, demand_some}
+use Rattle.fsl_core.specs.logic.States.{Env, State, goes, fails, Branches, Rule, followed, ◌>>=◌, give, done, demand, demand_some}
 use Rattle.fsl_core.specs.logic.Terms.{Expression}
 use Rattle.fsl_core.specs.logic.Deciding as deciding
 use Rattle.fsl_core.specs.logic.Deciding.{Condition, compares, sides, each_side, agrees, decide, decided, assume_cond, demand_cond, is_sure}

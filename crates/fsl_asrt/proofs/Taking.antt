@@ -1,7 +1,7 @@
 -- A share that is taken out of the chunk of a number is taken out of the cell that was found.
 use Rattle.std.proofs.Common.{◌≡◌, Bool, true, false, List, [], ◌∷◌, ◌++◌, Option, Some, None, pos, slice_set, refl, sym, ap, ◌∙◌, append-nil}
 use Rattle.fsl_asrt.specs.declared.cells.FoundCell.{FoundCell}
-use Rattle.fsl_asrt.specs.Cells.{cell_of, IsFound, IsFoundBy, put_at, take_at, left_at}
+use Rattle.fsl_asrt.specs.Cells.{IsFound, IsFoundBy, left_at}
 use Rattle.fsl_asrt.specs.Taken.{IsTheCell, held}
 use Rattle.fsl_asrt.proofs.Keeping.{AreKept, followed_same, followed_kept, given_kept, kept_append, kept_from, some_kept, met_kept, fitting_kept, at_most_kept}
 use Rattle.fsl_asrt.proofs.Laws.{followed_append, followed_equal, followed_twice}
@@ -10,10 +10,10 @@ use Rattle.fsl_core.specs.declared.chunk.Chunk.TheVariants as chunk
 use Rattle.fsl_core.specs.declared.mode.Rung.{Rung}
 use Rattle.fsl_core.specs.declared.verdict.Kind.{Kind}
 use Rattle.fsl_core.specs.declared.verdict.Kind.TheVariants as kind
-use Rattle.fsl_core.specs.logic.States.{Env, State, goes, fails, Branches, Rule, Action, followed, ◌>>=◌, ◌>>◌, give, demand, demand_some}
+use Rattle.fsl_core.specs.logic.States.{Env, State, goes, fails, Branches, Rule, followed, ◌>>=◌, ◌>>◌, give, demand, demand_some}
 use Rattle.fsl_core.specs.logic.Terms.{fitting}
 use Rattle.fsl_core.specs.logic.Deciding.{proves_at_most, proves_equal, assume_at_most}
-use Rattle.fsl_core.specs.logic.Chunks.{Cell, Found, first, put, take, cell_at, enough_at}
+use Rattle.fsl_core.specs.logic.Chunks.{Cell, Found, first, cell_at, enough_at}
 use Rattle.fsl_core.specs.logic.Producing.{Wanted, any, bind, equals}
 use Rattle.fsl_core.specs.logic.Consuming.{rest_of, leave_rest, find_cell, match_value, consume_cell, demand_equal}
 use Rattle.fsl_lin.specs.Combination.{Combination, minus, constant}

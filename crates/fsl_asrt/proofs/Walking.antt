@@ -10,13 +10,17 @@ use Rattle.fsl_asrt.specs.declared.walk.Way.TheVariants.{Produce, Consume}
 use Rattle.fsl_asrt.specs.Ways.{by_way, all_by}
 use Rattle.fsl_asrt.proofs.Laws.{followed_equal, followed_give, followed_twice}
 use Rattle.fsl_core.specs.declared.assertion.Asrt.{Asrt}
+use Rattle.fsl_core.specs.declared.assertion.Asrt.TheFolds.{fold-roll-Asrt}
+use Rattle.fsl_core.specs.declared.assertion.Asrt.TheOpen.{Asrt-F}
+use Rattle.fsl_core.specs.declared.assertion.Asrt.TheVariants.{Choice, rolls-Choice}
+use Rattle.fsl_core.specs.declared.expr.Cond.{Cond}
 use Rattle.fsl_core.specs.declared.mode.Rung.{Rung}
 use Rattle.fsl_core.specs.declared.verdict.Mood.{Mood}
 use Rattle.fsl_core.specs.logic.States.{Env, State, goes, Branches, Rule, followed}
-use Rattle.fsl_core.specs.logic.Deciding.{Condition, decided}
-use Rattle.fsl_core.specs.logic.Producing.{chosen, all_produced}
-use Rattle.fsl_core.specs.logic.Consuming.{all_consumed}
-use Rattle.fsl_core.specs.logic.Assertions.{Assertion, choice, asrt_of}
+use Rattle.fsl_core.specs.logic.Terms.{expr_of}
+use Rattle.fsl_core.specs.logic.Deciding.{Condition, cond_of, decided}
+use Rattle.fsl_core.specs.logic.Producing.{chosen}
+use Rattle.fsl_core.specs.logic.Assertions.{Assertion, choice, asrt_step, asrt_of}
 
 -- the first of several, on each branch, and then the others
 pub one_more : (way : Way) (a : Assertion) (rest : List Assertion) (rung : Rung) (bs : Branches Env)
@@ -48,6 +52,10 @@ pub by_choice : (way : Way) (cond : Condition) (a b : Assertion) (rung : Rung) (
     → by_way way (choice cond a b) rung env s ≡ followed (decided cond env s) (λ holds. by_way way (chosen a b holds) rung env)
 by_choice Produce cond a b rung env s = followed_equal (decided cond env s) _ _ (λ holds t. arm_produced a b holds rung env t)
 by_choice (Consume mood) cond a b rung env s = followed_equal (decided cond env s) _ _ (λ holds t. arm_consumed mood a b holds rung env t)
+
+-- one level of a choice
+pub level_of_choice : (cond : Cond) (a b : Asrt) → asrt_of (Choice cond a b) ≡ choice (cond_of expr_of cond) (asrt_of a) (asrt_of b)
+level_of_choice cond a b = ap asrt_of (sym (rolls-Choice cond a b)) ∙ fold-roll-Asrt Assertion (asrt_step expr_of) (Asrt-F.Choice cond a b)
 
 -- ---- the loops
 

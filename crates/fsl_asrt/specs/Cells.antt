@@ -7,7 +7,7 @@ use Rattle.fsl_chunk.specs.declared.kind.ChunkKind.TheVariants.{Points}
 use Rattle.fsl_core.specs.declared.chunk.Chunk.{Chunk}
 use Rattle.fsl_core.specs.declared.chunk.Chunk.TheVariants as chunk
 use Rattle.fsl_core.specs.declared.mode.Rung.{Rung}
-use Rattle.fsl_core.specs.logic.States.{State, Action, ◌>>◌, ◌>>=◌, change}
+use Rattle.fsl_core.specs.logic.States.{Action, ◌>>◌, ◌>>=◌, change}
 use Rattle.fsl_core.specs.logic.Terms.{fitting}
 use Rattle.fsl_core.specs.logic.Deciding.{assume_at_most}
 use Rattle.fsl_core.specs.logic.Chunks.{Cell, Found}

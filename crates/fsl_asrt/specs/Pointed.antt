@@ -1,5 +1,5 @@
 -- A points-to whose expressions are read first.
-use Rattle.std.specs.Prelude.{List, [], ◌∷◌, Option, Some, None}
+use Rattle.std.specs.Prelude.{[], ◌∷◌, Option, Some, None}
 use Rattle.fsl_asrt.specs.declared.pointed.PointsTo.{PointsTo}
 use Rattle.fsl_asrt.specs.declared.pointed.Value.{Value}
 use Rattle.fsl_asrt.specs.declared.pointed.Value.TheVariants as value

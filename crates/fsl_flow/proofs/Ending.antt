@@ -1,5 +1,5 @@
 -- Rules that read a term first.
-use Rattle.std.proofs.Common.{◌≡◌, ℕ, [], ◌∷◌, Some, None, sym, ap, ◌∙◌, append-nil}
+use Rattle.std.proofs.Common.{◌≡◌, ℕ, [], ◌∷◌, Option, Some, None, sym, ap, ◌∙◌, append-nil}
 use Rattle.fsl_core.specs.declared.verdict.Kind.TheVariants as kind
 use Rattle.fsl_core.specs.logic.States.{Env, State, fails, Rule, Action, followed, ◌>>=◌, here, done, demand_some, set}
 use Rattle.fsl_core.specs.logic.Terms.{Expression, term}
@@ -9,6 +9,11 @@ use Rattle.fsl_core.specs.logic.Paths.{set_to, print, return}
 use Rattle.fsl_lin.specs.Combination.{Combination}
 use Rattle.fsl_asrt.proofs.Laws.{got, lacked}
 use Rattle.fsl_flow.proofs.Following.{from_here}
+
+-- an expression that was read over the variables as they are
+pub has_term : (e : Expression) (s : State) (env : Env) (o : Option Combination) (t : Combination) → env ≡ s.env → o ≡ e.term s.facts env
+    → o ≡ Some t → e.term s.facts s.env ≡ Some t
+has_term e s env o t same is some = ap (λ (v : Env). e.term s.facts v) (sym same) ∙ sym is ∙ some
 
 -- a term over the variables as they are, and what follows
 with_term : {Y : Type 0} (e : Expression) (after : Combination → Rule Y) (s : State) (t : Combination) → e.term s.facts s.env ≡ Some t

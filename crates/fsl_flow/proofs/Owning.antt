@@ -109,6 +109,21 @@ value_wide at e s a h k =
     ∙ got kind.Term (at.term s.facts s.env) a s (λ x u. followed (demand_some kind.Term (e.term u.facts s.env) u) (store_from x)) h
     ∙ lacked kind.Term (e.term s.facts s.env) s (store_from a) k
 
+-- a cell of which all shares are owned, and one of which some are lacking
+pub written_whole : (c : FoundCell) (v : Combination) (s t : State) (all : Combination) (owned : Bool) → all ≡ full
+    → owned ≡ proves_equal s.facts c.share all → owned ≡ true
+    → t ≡ record s { chunks = slice_set s.chunks c.number (chunk.Points Plain c.at c.share (Some v)) } → goes tt t ∷ [] ≡ written c v s
+written_whole c v s t all owned a h k e =
+    let whole : true ≡ proves_equal s.facts c.share full = sym k ∙ h ∙ ap (λ (x : Combination). proves_equal s.facts c.share x) a in
+    ap (λ (u : State). goes tt u ∷ []) e
+    ∙ ap (λ (b : Bool). followed (demand kind.Share b s ++ []) (λ _. put_at c.number (chunk.Points Plain c.at c.share (Some v)))) whole
+
+pub written_part : (c : FoundCell) (v : Combination) (s : State) (all : Combination) (owned : Bool) → all ≡ full
+    → owned ≡ proves_equal s.facts c.share all → owned ≡ false → fails kind.Share ∷ [] ≡ written c v s
+written_part c v s all owned a h k =
+    let part : false ≡ proves_equal s.facts c.share full = sym k ∙ h ∙ ap (λ (x : Combination). proves_equal s.facts c.share x) a in
+    ap (λ (b : Bool). followed (demand kind.Share b s ++ []) (λ _. put_at c.number (chunk.Points Plain c.at c.share (Some v)))) part
+
 put_same : (s : State) (f : Found Chunk Cell) (c : FoundCell) (v : Combination) → IsFound Plain s.chunks f c
     → put_value v f s ≡ put_at c.number (chunk.Points Plain c.at c.share (Some v)) s
 put_same s f c v is =

@@ -1,5 +1,11 @@
 pub mod Chains
+pub mod FittingAssertions
+pub mod FittingPrograms
+pub mod FittingStatements
+pub mod Growing
+pub mod GrowingDeclarations
 pub mod Least
+pub mod NamedDeclarations
 pub mod Results
 pub mod Spellings
 pub mod Tables

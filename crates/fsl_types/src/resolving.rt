@@ -221,7 +221,7 @@ fn resolve_all(alloc: Global, bytes: &[u8], file: &File) -> Result<Resolved, All
 /// The program of a file's tree; where the tree is none, its fault with the least place, at one place the first
 /// kind. It takes time in proportion to the size of the file. A predicate and its uses are left out: they are
 /// replaced before.
-#[tactic(auto, using(crate::proofs::Least::none_named))]
+#[tactic(auto, using(crate::proofs::Least::none_named, crate::proofs::FittingPrograms::never_refused))]
 pub fn resolve(alloc: Global, bytes: &[u8], file: &File) -> Result<Program, TypeFault>
     requires { length bytes.now < 2 ^ 32 }
     ensures program { IfOk result (λ p. (faults_of bytes.now file.now ≡ []) × (p ≡ program_of bytes.now file.now)) }

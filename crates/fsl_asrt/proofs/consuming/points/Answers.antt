@@ -1,7 +1,7 @@
-use Rattle.std.proofs.Common.{◌≡◌, [], ◌∷◌, Option, Some, sym, ap, ◌∙◌}
+use Rattle.std.proofs.Common.{[], ◌∷◌, Option, Some, sym, ap, ◌∙◌}
 use Rattle.fsl_asrt.specs.declared.pointed.PointsTo.{PointsTo}
 use Rattle.fsl_asrt.specs.Branches.{bounds}
-use Rattle.fsl_asrt.specs.Pointed.{After, pointed, wanted_of}
+use Rattle.fsl_asrt.specs.Pointed.{After, pointed}
 use Rattle.fsl_asrt.proofs.Keeping.{ok_then}
 use Rattle.fsl_core.specs.declared.verdict.Kind.TheVariants.{Term}
 use Rattle.fsl_core.specs.logic.States.{fails}

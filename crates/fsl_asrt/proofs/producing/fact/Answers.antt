@@ -1,4 +1,4 @@
-use Rattle.std.proofs.Common.{true, ap}
+use Rattle.std.proofs.Common.{ap}
 use Rattle.fsl_asrt.specs.Branches.{branches, bounds}
 use Rattle.fsl_asrt.proofs.Keeping.{ok_then}
 use Rattle.fsl_core.specs.logic.States.{Branches, followed, give}

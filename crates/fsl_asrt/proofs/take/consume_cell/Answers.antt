@@ -1,4 +1,4 @@
-use Rattle.std.proofs.Common.{◌≡◌, [], ◌∷◌, pos, true, false, sym, ap, ◌∙◌}
+use Rattle.std.proofs.Common.{◌≡◌, [], ◌∷◌, pos, false, sym, ap, ◌∙◌}
 use Rattle.fsl_asrt.specs.Branches.{bounds}
 use Rattle.fsl_asrt.specs.Pointed.{wanted_of}
 use Rattle.fsl_asrt.proofs.Keeping.{ok_then}

@@ -1,4 +1,4 @@
-use Rattle.std.proofs.Common.{◌≡◌, ◌^◌, pos, true, get_or, to_z, of_z, SFits, rules, sym, ◌∙◌}
+use Rattle.std.proofs.Common.{◌≡◌, ◌^◌, pos, get_or, SFits, rules, sym, ◌∙◌}
 use Rattle.std.proofs.lemmas.Int.{to_z-of_z}
 use Rattle.std.specs.Int.{w128}
 use Rattle.fsl_lin.specs.Facts.{rows}

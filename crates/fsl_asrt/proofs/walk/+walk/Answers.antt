@@ -1,7 +1,7 @@
-use Rattle.std.proofs.Common.{◌≡◌, ◌∷◌, ◌+◌, drop, refl, ◌∙◌, rules}
+use Rattle.std.proofs.Common.{◌≡◌, ◌∷◌, ◌+◌, drop, refl, ap, ◌∙◌}
 use Rattle.std.proofs.Math.ListN.{drop_of_length-le}
 use Rattle.fsl_asrt.specs.Branches.{bounds}
-use Rattle.fsl_asrt.proofs.Walking.{first_choice, next_item, rest_built, part_done, parts_done}
+use Rattle.fsl_asrt.proofs.Walking.{level_of_choice, first_choice, next_item, rest_built, part_done, parts_done}
 use Rattle.fsl_core.specs.logic.Assertions.{asrt_of, choice}
 use Rattle.fsl_core.specs.logic.Terms.{expr_of}
 use Rattle.fsl_core.specs.logic.Deciding.{cond_of}
@@ -14,7 +14,7 @@ walk-loop-branch-init t c =
     let a = asrt_of c.in-Choice.yes in
     let b = asrt_of c.in-Choice.no in
     let cond = cond_of expr_of c.in-Choice.cond in
-    let level : x ≡ choice cond a b = search rules in
+    let level : x ≡ choice cond a b = ap asrt_of c.in-Choice.is ∙ level_of_choice c.in-Choice.cond c.in-Choice.yes c.in-Choice.no in
     record {
       same = refl;
       can = tt;
