@@ -16,16 +16,20 @@ use std::thread::Threads;
 #[derive(Clone, Copy)]
 struct Procedures<'a> {
     program: &'a Program,
+    count: u32,
     ghost covered: { IsCovered program.now },
+    ghost counted: { count ≡ length program.now.procs },
 }
 
 impl<'a> Work for Procedures<'a> {
     ghost outcomes = { λ work. outcomes (ends_of work.program.now) 0 work.program.now.procs };
 
+    #[tactic(auto, using(crate::proofs::Procedures::as_many))]
     fn units(&self) -> u32 {
-        self.program.procs().len() as u32
+        self.count
     }
 
+    #[tactic(auto, using(crate::proofs::Procedures::found, crate::proofs::Procedures::within))]
     fn outcome(&self, alloc: Global, unit: u32) -> Result<Outcome, AllocError> {
         outcome(alloc, self.program, unit)
     }
@@ -46,5 +50,9 @@ pub fn judge<R: Threads + Sync, G: Gate>(
     requires few { workers ≤ 64 }
     ensures { IfOk result (λ v. v ≡ verdict_of p.now) }
 {
-    check_all(rt, alloc, &Procedures { program: p }, workers, gate)
+    // memory ends long before the numbers of units do
+    let Ok(count) = u32::try_from(p.procs().len()) else {
+        return Err(AllocError);
+    };
+    check_all(rt, alloc, &Procedures { program: p, count }, workers, gate)
 }
