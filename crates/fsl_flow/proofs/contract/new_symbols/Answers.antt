@@ -1,6 +1,5 @@
 use Rattle.std.proofs.Common.{[], ◌∷◌, ◌∙◌, ap, sym}
-use Rattle.fsl_core.specs.States.{Env}
-use Rattle.fsl_core.specs.logic.States.{goes}
+use Rattle.fsl_core.specs.logic.States.{Env, goes}
 use Rattle.fsl_chunk.specs.Branches.{branches_made}
 use Rattle.fsl_flow.proofs.Following.{symbols_goes}
 use Rattle.fsl_flow.proofs.contract.new_symbols.Goals as goal
