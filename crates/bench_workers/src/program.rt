@@ -69,8 +69,5 @@ pub fn straight(alloc: Global, pairs: u32) -> Result<Program, AllocError> {
         body,
         last: Span { from: 0, to: 0 },
     })?;
-    Ok(Program {
-        invs: List::new(alloc),
-        procs,
-    })
+    Program::new(List::new(alloc), procs).ok_or(AllocError)
 }

@@ -109,8 +109,10 @@ fn found(alloc: Global, body: List<Stmt>) -> Result<Option<Outcome>, AllocError>
         last: Span { from: 99, to: 100 },
     })?;
     let invs = List::new(alloc);
-    let p = Program { invs, procs };
-    if built(&p) && p.procs.len() == 1 {
+    let Some(p) = Program::new(invs, procs) else {
+        return Ok(None);
+    };
+    if built(&p) && p.procs().len() == 1 {
         Ok(Some(outcome(alloc, &p, 0)?))
     } else {
         Ok(None)
