@@ -1,13 +1,15 @@
 //! Tests of what no clause says: values at the edges of the range, and that copies succeed where there
 //! is memory.
+mod well_formed;
+
 ghost use Rattle.std.specs.Prelude.{◌≡◌, [], ◌∷◌, IsTrue, IfOk};
 ghost use Rattle.fsl_core.specs.Values.{slots_below};
 
 use crate::act::{Act, Called, Step, Stmt};
 use crate::assertion::{Asrt, Inst, Pat};
+use crate::declaration::{Inv, Proc};
 use crate::expr::{CmpOp, Cond, Expr, Part};
 use crate::mode::Mode;
-use crate::declaration::{Inv, Proc};
 use crate::program::Program;
 use crate::values::{eval, holds};
 use fsl_base::{Boxed, List, Span, Text};
@@ -175,11 +177,7 @@ fn add_leaves_and_tokens(alloc: Global, to: &mut List<Asrt>, n: i128) -> Result<
     })
 }
 
-fn add_nested(alloc: Global, to: &mut List<Asrt>) -> Result<(), AllocError> {
-    let a = Boxed::new(alloc, Asrt::Emp)?;
-    to.push(Asrt::Up { a })?;
-    let a = Boxed::new(alloc, Asrt::Emp)?;
-    to.push(Asrt::Down { a })?;
+fn add_choice(alloc: Global, to: &mut List<Asrt>) -> Result<(), AllocError> {
     let yes = Boxed::new(alloc, Asrt::Emp)?;
     let no = Boxed::new(alloc, Asrt::Init { at: constant(1) })?;
     to.push(Asrt::Choice {
@@ -189,12 +187,21 @@ fn add_nested(alloc: Global, to: &mut List<Asrt>) -> Result<(), AllocError> {
     })
 }
 
-// An assertion with one of every kind, and the number `n` in it.
+// An assertion with one of every kind without modalities, and the number `n` in it.
 fn assertion(alloc: Global, n: i128) -> Result<Asrt, AllocError> {
     let mut parts = List::new(alloc);
     add_memory_assertions(alloc, &mut parts)?;
     add_leaves_and_tokens(alloc, &mut parts, n)?;
-    add_nested(alloc, &mut parts)?;
+    add_choice(alloc, &mut parts)?;
+    Ok(Asrt::Both { parts })
+}
+
+// An assertion with both modalities.
+fn modalities(alloc: Global) -> Result<Asrt, AllocError> {
+    let a = Boxed::new(alloc, Asrt::Emp)?;
+    let mut parts = one(alloc, Asrt::Up { a })?;
+    let a = Boxed::new(alloc, Asrt::Emp)?;
+    parts.push(Asrt::Down { a })?;
     Ok(Asrt::Both { parts })
 }
 
@@ -267,11 +274,11 @@ fn add_calls(alloc: Global, to: &mut List<Stmt>) -> Result<(), AllocError> {
     let args = one(alloc, constant(1))?;
     to.push(at(Act::Call {
         slot: Some(1),
-        proc: 0,
+        proc: 1,
         args,
     }))?;
     let args = one(alloc, constant(1))?;
-    let calls = one(alloc, Called { proc: 0, args })?;
+    let calls = one(alloc, Called { proc: 1, args })?;
     to.push(at(Act::Par { calls }))?;
     to.push(at(Act::Fence {
         mode: Mode::Rel,
@@ -318,36 +325,62 @@ fn invariant(alloc: Global, n: i128) -> Result<Inv, AllocError> {
     })
 }
 
-fn procedure(alloc: Global) -> Result<Proc, AllocError> {
-    let name = Text::from_str(alloc, "main")?;
+fn procedure(
+    alloc: Global,
+    name: &str,
+    params: u32,
+    post: Asrt,
+    body: List<Stmt>,
+) -> Result<Proc, AllocError> {
+    let name = Text::from_str(alloc, name)?;
     let banks = one(alloc, 2)?;
-    let body = body(alloc)?;
     Ok(Proc {
         name,
-        params: 0,
+        params,
         slots: 3,
         banks,
         pre: Asrt::Emp,
-        post: Asrt::Fact { cond: Cond::Yes },
+        post,
         body,
         last: Span { from: 7, to: 8 },
     })
 }
 
+fn main_procedure(alloc: Global) -> Result<Proc, AllocError> {
+    let post = modalities(alloc)?;
+    let body = body(alloc)?;
+    procedure(alloc, "main", 0, post, body)
+}
+
+// What `main` calls.
+fn child(alloc: Global) -> Result<Proc, AllocError> {
+    let post = Asrt::Fact { cond: Cond::Yes };
+    procedure(alloc, "child", 1, post, List::new(alloc))
+}
+
+fn procedures(alloc: Global) -> Result<List<Proc>, AllocError> {
+    let main = main_procedure(alloc)?;
+    let mut procs = one(alloc, main)?;
+    let child = child(alloc)?;
+    procs.push(child)?;
+    Ok(procs)
+}
+
 // A program with one of every kind of statement and assertion, and the number `n` in its invariant.
-fn program(alloc: Global, n: i128) -> Result<Program, AllocError> {
+fn program(alloc: Global, n: i128) -> Result<Option<Program>, AllocError> {
     let inv = invariant(alloc, n)?;
     let invs = one(alloc, inv)?;
-    let proc = procedure(alloc)?;
-    let procs = one(alloc, proc)?;
-    Ok(Program { invs, procs })
+    let procs = procedures(alloc)?;
+    Ok(Program::new(invs, procs))
 }
 
 #[test]
-fn a_copy_is_the_same_as_its_program_alone(rt: HostRuntime) {
-    let first = program(rt.alloc(), 1).expect(&rt, "no memory");
-    let second = program(rt.alloc(), 2).expect(&rt, "no memory");
-    let copy = first.copy(rt.alloc()).expect(&rt, "no memory");
+fn a_copy_is_the_same_as_its_program_alone(rt: HostRuntime) -> Result<(), AllocError> {
+    let alloc = rt.alloc();
+    let first = program(alloc, 1)?.expect(&rt, "well formed");
+    let second = program(alloc, 2)?.expect(&rt, "well formed");
+    let copy = first.copy(alloc)?;
     assert!(rt; copy.same(&first));
     assert!(rt; !copy.same(&second));
+    Ok(())
 }

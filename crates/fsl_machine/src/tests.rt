@@ -25,7 +25,7 @@ fn program(alloc: Global, acts: Vec<Act>) -> Result<Program, AllocError> {
         last: Span { from: 0, to: 0 },
     })?;
     let invs = List::new(alloc);
-    Ok(Program { invs, procs })
+    Program::new(invs, procs).ok_or(AllocError)
 }
 
 // What two steps of a machine do, and how the run ends behind them.

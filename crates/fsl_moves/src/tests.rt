@@ -38,7 +38,7 @@ fn program(alloc: Global, acts: Vec<Act>) -> Result<Program, AllocError> {
         last: Span { from: 0, to: 0 },
     })?;
     let invs = List::new(alloc);
-    Ok(Program { invs, procs })
+    Program::new(invs, procs).ok_or(AllocError)
 }
 
 // What a memory answers that gives out location 1, and in which everything is 7.
