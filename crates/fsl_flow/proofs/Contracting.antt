@@ -4,7 +4,7 @@ use Rattle.fsl_core.specs.declared.mode.Rung.TheVariants.{Plain}
 use Rattle.fsl_core.specs.declared.verdict.Kind.{Kind}
 use Rattle.fsl_core.specs.declared.verdict.Kind.TheVariants as kind
 use Rattle.fsl_core.specs.declared.verdict.Mood.TheVariants as mood
-use Rattle.fsl_core.specs.logic.States.{Env, State, goes, fails, followed, ◌>>=◌, ◌>>◌, done, change}
+use Rattle.fsl_core.specs.logic.States.{Env, State, goes, fails, followed, ◌>>=◌, done, change}
 use Rattle.fsl_core.specs.logic.Deciding.{Condition, decided, assume_cond, demand_cond}
 use Rattle.fsl_core.specs.logic.Assertions.{Assertion}
 use Rattle.fsl_core.specs.logic.Locations.{Contract, padded}
@@ -13,7 +13,7 @@ use Rattle.fsl_core.specs.logic.Slots.{renew}
 use Rattle.fsl_core.specs.logic.Paths.{assert, give_inv, round}
 use Rattle.fsl_lin.specs.Combination.{Combination}
 use Rattle.fsl_flow.specs.Rounds.{decided_here, produced, body_round}
-use Rattle.fsl_flow.proofs.Following.{from_here, then_goes, then_gone, then_fails}
+use Rattle.fsl_flow.proofs.Following.{then_goes, then_gone, then_fails}
 
 pub finished : (post : Assertion) (t : Combination) (s : State)
     → finish post t s ≡ followed (post.consume mood.Post Plain (s.env ++ t ∷ []) s) (λ _. done)

@@ -1,7 +1,7 @@
 -- Rules that read a term first.
-use Rattle.std.proofs.Common.{◌≡◌, ℕ, [], ◌∷◌, Option, Some, None, sym, ap, ◌∙◌, append-nil}
+use Rattle.std.proofs.Common.{◌≡◌, ℕ, [], ◌∷◌, Option, Some, None, sym, ap, ◌∙◌}
 use Rattle.fsl_core.specs.declared.verdict.Kind.TheVariants as kind
-use Rattle.fsl_core.specs.logic.States.{Env, State, fails, Rule, Action, followed, ◌>>=◌, here, done, demand_some, set}
+use Rattle.fsl_core.specs.logic.States.{Env, State, fails, Rule, ◌>>=◌, here, done, set}
 use Rattle.fsl_core.specs.logic.Terms.{Expression, term}
 use Rattle.fsl_core.specs.logic.Assertions.{Assertion}
 use Rattle.fsl_core.specs.logic.Calls.{finish}

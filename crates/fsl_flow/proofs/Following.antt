@@ -1,8 +1,8 @@
 -- Rules that are followed: one branch, the environment as it is, symbols one after the other.
-use Rattle.std.proofs.Common.{arith, ◌≡◌, ◌<◌, ◌≤◌, ℕ, zero, suc, ◌+◌, ◌-◌, ◌==◌, Bool, true, false, List, [], ◌∷◌, ◌++◌, length, refl, sym, ap, ◌∙◌, append-nil, add-one, add-suc, add-zero}
+use Rattle.std.proofs.Common.{arith, ◌≡◌, ◌<◌, ℕ, zero, suc, ◌+◌, ◌-◌, ◌==◌, Bool, true, false, List, [], ◌∷◌, ◌++◌, refl, sym, ap, ◌∙◌, append-nil, add-one, add-suc, add-zero}
 use Rattle.std.specs.List.{list_any}
 use Rattle.fsl_core.specs.declared.verdict.Kind.{Kind}
-use Rattle.fsl_core.specs.logic.States.{Env, State, goes, fails, Branches, Rule, Action, followed, ◌>>=◌, ◌>>◌, give, done, here, new_symbol, set}
+use Rattle.fsl_core.specs.logic.States.{Env, State, goes, fails, Branches, Rule, Action, followed, ◌>>=◌, give, here, new_symbol, set}
 use Rattle.fsl_core.specs.logic.Calls.{new_symbols}
 use Rattle.fsl_core.specs.logic.Slots.{renew, renew_one}
 use Rattle.fsl_lin.specs.Combination.{Combination}

@@ -5,7 +5,7 @@ use Rattle.fsl_core.specs.declared.chunk.Chunk.TheVariants as chunk
 use Rattle.fsl_core.specs.declared.mode.Rung.TheVariants.{Plain}
 use Rattle.fsl_core.specs.declared.verdict.Kind.{Kind}
 use Rattle.fsl_core.specs.declared.verdict.Kind.TheVariants as kind
-use Rattle.fsl_core.specs.logic.States.{State, goes, fails, Branches, Rule, Action, followed, ◌>>=◌, ◌>>◌, give, demand, demand_some, new_symbol, set}
+use Rattle.fsl_core.specs.logic.States.{State, goes, fails, Branches, Rule, Action, followed, ◌>>=◌, ◌>>◌, give, demand, demand_some, new_symbol}
 use Rattle.fsl_core.specs.logic.Terms.{Expression}
 use Rattle.fsl_core.specs.logic.Deciding.{proves_equal, assume_at_most}
 use Rattle.fsl_core.specs.logic.Chunks.{Found, Reading, first, find_or, put, Cell, cell_at}
@@ -13,7 +13,7 @@ use Rattle.fsl_core.specs.logic.Joining.{full}
 use Rattle.fsl_core.specs.logic.Consuming.{demand_equal}
 use Rattle.fsl_core.specs.logic.Accesses.{alloc_na, load_na, store_na, whole_cell}
 use Rattle.fsl_lin.specs.Combination.{Combination, constant}
-use Rattle.fsl_asrt.specs.Cells.{cell_of, IsPoints, IsFound, IsFoundBy, put_at}
+use Rattle.fsl_asrt.specs.Cells.{IsPoints, IsFound, IsFoundBy, put_at}
 use Rattle.fsl_asrt.specs.declared.cells.FoundCell.{FoundCell}
 use Rattle.fsl_asrt.proofs.Laws.{followed_twice, followed_equal, got, lacked}
 use Rattle.fsl_flow.specs.Owned.{placed, addressed, loaded, written}

@@ -1,5 +1,5 @@
 -- Environments with zeros behind what is set.
-use Rattle.std.proofs.Common.{arith, ◌≡◌, ◌<◌, ◌≤◌, ℕ, suc, ◌+◌, ◌-◌, List, [], ◌∷◌, ◌++◌, length, replicate, refl, sym, ap, ◌∙◌, append_assoc, append-nil, length-append}
+use Rattle.std.proofs.Common.{arith, ◌≡◌, ◌<◌, ◌≤◌, ℕ, suc, ◌+◌, ◌-◌, [], ◌∷◌, ◌++◌, length, replicate, sym, ap, ◌∙◌, append_assoc, append-nil, length-append}
 use Rattle.fsl_core.specs.logic.States.{Env}
 use Rattle.fsl_core.specs.logic.Joining.{nought}
 use Rattle.fsl_core.specs.logic.Locations.{padded}

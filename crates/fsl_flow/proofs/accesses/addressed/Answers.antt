@@ -1,5 +1,4 @@
 use Rattle.std.proofs.Common.{pos, sym}
-use Rattle.fsl_core.specs.logic.States.{Action}
 use Rattle.fsl_core.specs.logic.Deciding.{assume_at_most}
 use Rattle.fsl_lin.specs.Combination.{constant}
 use Rattle.fsl_chunk.specs.Branches.{branches}

@@ -1,4 +1,4 @@
-use Rattle.std.proofs.Common.{rules, ◌≡◌, ◌==◌, true, false, sym}
+use Rattle.std.proofs.Common.{rules, ◌≡◌, ◌==◌, false, sym}
 use Rattle.std.specs.List.{list_any}
 use Rattle.fsl_flow.specs.Sets.{act_sets}
 use Rattle.fsl_flow.proofs.Slots.{any_skips, any_found, any_end}
