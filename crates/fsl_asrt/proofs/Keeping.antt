@@ -7,7 +7,7 @@ use Rattle.fsl_core.specs.declared.mode.Rung.{Rung}
 use Rattle.fsl_core.specs.declared.verdict.Kind.{Kind}
 use Rattle.fsl_core.specs.declared.verdict.Kind.TheVariants as kind
 use Rattle.fsl_core.specs.logic.States.{State, goes, fails, Branches, Rule, followed, give, demand, demand_some}
-use Rattle.fsl_core.specs.logic.Terms.{fitting}
+use Rattle.fsl_core.specs.logic.Terms.{fitting, narrow}
 use Rattle.fsl_core.specs.logic.Deciding.{has_room, assume, assume_at_most}
 use Rattle.fsl_core.specs.logic.Joining.{assume_same}
 use Rattle.fsl_lin.specs.Combination.{Combination, plus, minus, constant, is_narrow}
