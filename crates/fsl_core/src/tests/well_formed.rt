@@ -9,17 +9,13 @@ use crate::program::Program;
 use fsl_base::{Boxed, List, Span, Text};
 use std::alloc::{AllocError, Global};
 
-// What is varied of a program: an invariant with one parameter and two parts, a procedure with one parameter, and
-// `main` behind it with one statement.
+// A program's parts: an invariant with one parameter and two parts, a procedure with one parameter, and `main` behind
+// it with one statement.
 #[derive(Drop)]
 struct Draft {
-    part: Asrt,
-    pre: Asrt,
-    post: Asrt,
-    main: &'static str,
-    main_params: u32,
-    main_pre: Asrt,
-    act: Act,
+    invs: List<Inv>,
+    child: Proc,
+    main: Proc,
 }
 
 fn one_expr() -> Expr {
@@ -31,92 +27,80 @@ fn block(alloc: Global, act: Act) -> Result<List<Stmt>, AllocError> {
     one(alloc, Stmt { span, act })
 }
 
-fn procedure(
-    alloc: Global,
-    name: &str,
-    params: u32,
-    pre: Asrt,
-    post: Asrt,
-) -> Result<Proc, AllocError> {
-    Ok(Proc {
-        name: Text::from_str(alloc, name)?,
+fn procedure(alloc: Global, name: Text, params: u32) -> Proc {
+    Proc {
+        name,
         params,
         slots: params,
         banks: List::new(alloc),
-        pre,
-        post,
+        pre: Asrt::Emp,
+        post: Asrt::Emp,
         body: List::new(alloc),
         last: Span { from: 0, to: 0 },
-    })
+    }
+}
+
+fn named(alloc: Global, name: &str, params: u32) -> Result<Proc, AllocError> {
+    let name = Text::from_str(alloc, name)?;
+    Ok(procedure(alloc, name, params))
+}
+
+fn parts(alloc: Global, part: Asrt) -> Result<List<Asrt>, AllocError> {
+    let mut parts = one(alloc, part)?;
+    parts.push(Asrt::Emp)?;
+    Ok(parts)
 }
 
 fn invariants(alloc: Global, part: Asrt) -> Result<List<Inv>, AllocError> {
-    let mut parts = one(alloc, Asrt::Emp)?;
-    parts.push(part)?;
-    let name = Text::from_str(alloc, "lock")?;
+    let parts = parts(alloc, part)?;
+    let name = Text::new(alloc);
+    let params = 1;
+    let slots = 2;
     one(
         alloc,
         Inv {
             name,
-            params: 1,
-            slots: 2,
+            params,
+            slots,
             parts,
         },
     )
 }
 
-impl Draft {
-    // A well-formed program.
-    fn plain() -> Draft {
-        Draft {
-            part: Asrt::Emp,
-            pre: Asrt::Emp,
-            post: Asrt::Emp,
-            main: "main",
-            main_params: 0,
-            main_pre: Asrt::Emp,
-            act: Act::Print { e: one_expr() },
-        }
-    }
+// The parts of a well-formed program.
+fn plain(alloc: Global) -> Result<Draft, AllocError> {
+    let invs = invariants(alloc, Asrt::Emp)?;
+    let child = named(alloc, "child", 1)?;
+    let main = named(alloc, "main", 0)?;
+    Ok(Draft { invs, child, main })
+}
 
-    // Whether it is a program.
-    fn is_program(self, alloc: Global) -> Result<bool, AllocError> {
-        let Draft {
-            part,
-            pre,
-            post,
-            main,
-            main_params,
-            main_pre,
-            act,
-        } = self;
-        let body = block(alloc, act)?;
-        let mut main = procedure(alloc, main, main_params, main_pre, Asrt::Emp)?;
-        main.body = body;
-        let child = procedure(alloc, "child", 1, pre, post)?;
-        let mut procs = one(alloc, child)?;
-        procs.push(main)?;
-        let invs = invariants(alloc, part)?;
-        Ok(Program::new(invs, procs).is_some())
-    }
+// Whether they are a program.
+fn is_program(alloc: Global, draft: Draft) -> Result<bool, AllocError> {
+    let Draft { invs, child, main } = draft;
+    let mut procs = one(alloc, child)?;
+    procs.push(main)?;
+    Ok(Program::new(invs, procs).is_some())
 }
 
 fn with_act(alloc: Global, act: Act) -> Result<bool, AllocError> {
-    let mut draft = Draft::plain();
-    draft.act = act;
-    draft.is_program(alloc)
+    let body = block(alloc, act)?;
+    let mut draft = plain(alloc)?;
+    draft.main.body = body;
+    is_program(alloc, draft)
 }
 
 fn with_pre(alloc: Global, pre: Asrt) -> Result<bool, AllocError> {
-    let mut draft = Draft::plain();
-    draft.pre = pre;
-    draft.is_program(alloc)
+    let mut draft = plain(alloc)?;
+    draft.child.pre = pre;
+    is_program(alloc, draft)
 }
 
 fn with_part(alloc: Global, part: Asrt) -> Result<bool, AllocError> {
-    let mut draft = Draft::plain();
-    draft.part = part;
-    draft.is_program(alloc)
+    let invs = invariants(alloc, part)?;
+    let mut draft = plain(alloc)?;
+    draft.invs = invs;
+    is_program(alloc, draft)
 }
 
 fn args(alloc: Global, many: u32) -> Result<List<Expr>, AllocError> {
@@ -138,18 +122,15 @@ fn called(alloc: Global, proc: u32, many: u32) -> Result<Act, AllocError> {
     Ok(Act::Call { slot, proc, args })
 }
 
+fn call(alloc: Global, proc: u32, many: u32) -> Result<Called, AllocError> {
+    let args = args(alloc, many)?;
+    Ok(Called { proc, args })
+}
+
 // A call of the first procedure beside another.
 fn forked(alloc: Global, proc: u32, many: u32) -> Result<Act, AllocError> {
-    let first = args(alloc, 1)?;
-    let mut calls = one(
-        alloc,
-        Called {
-            proc: 0,
-            args: first,
-        },
-    )?;
-    let args = args(alloc, many)?;
-    calls.push(Called { proc, args })?;
+    let mut calls = one(alloc, call(alloc, 0, 1)?)?;
+    calls.push(call(alloc, proc, many)?)?;
     Ok(Act::Par { calls })
 }
 
@@ -171,38 +152,28 @@ fn a_call_has_an_argument_for_each_parameter(rt: HostRuntime) -> Result<(), Allo
     Ok(())
 }
 
-#[test]
-fn an_invariant_has_an_argument_for_each_parameter(rt: HostRuntime) -> Result<(), AllocError> {
-    let alloc = rt.alloc();
-    for (inv, many, fits) in [(0, 1, true), (0, 0, false), (0, 2, false), (1, 1, false)] {
-        let given = inst(alloc, inv, many)?;
-        let slot = 0;
-        let rmw = false;
-        assert_eq!(rt;
-            with_act(
-                alloc,
-                Act::AllocAt {
-                    slot,
-                    rmw,
-                    inst: given
-                }
-            )?,
-            fits
-        );
-        let at = one_expr();
-        let given = inst(alloc, inv, many)?;
-        assert_eq!(rt; with_pre(alloc, Asrt::Rel { at, inst: given })?, fits);
-        let at = one_expr();
-        let given = inst(alloc, inv, many)?;
-        assert_eq!(rt; with_pre(alloc, Asrt::RmwAcq { at, inst: given })?, fits);
-        assert_eq!(rt; with_pre(alloc, acquired(alloc, inv, many, 0)?)?, fits);
-    }
-    Ok(())
+fn allocated(alloc: Global, inv: u32, many: u32) -> Result<Act, AllocError> {
+    let slot = 0;
+    let rmw = false;
+    let inst = inst(alloc, inv, many)?;
+    Ok(Act::AllocAt { slot, rmw, inst })
+}
+
+fn released(alloc: Global, inv: u32, many: u32) -> Result<Asrt, AllocError> {
+    let inst = inst(alloc, inv, many)?;
+    let at = one_expr();
+    Ok(Asrt::Rel { at, inst })
+}
+
+fn updated(alloc: Global, inv: u32, many: u32) -> Result<Asrt, AllocError> {
+    let inst = inst(alloc, inv, many)?;
+    let at = one_expr();
+    Ok(Asrt::RmwAcq { at, inst })
 }
 
 fn acquired(alloc: Global, inv: u32, many: u32, part: u32) -> Result<Asrt, AllocError> {
-    let at = one_expr();
     let inst = inst(alloc, inv, many)?;
+    let at = one_expr();
     let out = List::new(alloc);
     Ok(Asrt::Acq {
         at,
@@ -210,6 +181,18 @@ fn acquired(alloc: Global, inv: u32, many: u32, part: u32) -> Result<Asrt, Alloc
         part,
         out,
     })
+}
+
+#[test]
+fn an_invariant_has_an_argument_for_each_parameter(rt: HostRuntime) -> Result<(), AllocError> {
+    let alloc = rt.alloc();
+    for (inv, many, fits) in [(0, 1, true), (0, 0, false), (0, 2, false), (1, 1, false)] {
+        assert_eq!(rt; with_act(alloc, allocated(alloc, inv, many)?)?, fits);
+        assert_eq!(rt; with_pre(alloc, released(alloc, inv, many)?)?, fits);
+        assert_eq!(rt; with_pre(alloc, updated(alloc, inv, many)?)?, fits);
+        assert_eq!(rt; with_pre(alloc, acquired(alloc, inv, many, 0)?)?, fits);
+    }
+    Ok(())
 }
 
 #[test]
@@ -300,9 +283,10 @@ fn chosen(alloc: Global, act: Act, other: Act) -> Result<Act, AllocError> {
     Ok(Act::If { cond, yes, no })
 }
 
-fn repeated(alloc: Global, inv: Asrt, act: Act) -> Result<Act, AllocError> {
+fn repeated(alloc: Global, act: Act) -> Result<Act, AllocError> {
     let body = block(alloc, act)?;
     let cond = Cond::Yes;
+    let inv = Asrt::Emp;
     Ok(Act::While { cond, inv, body })
 }
 
@@ -314,25 +298,39 @@ fn the_statements_of_blocks_have_their_modes(rt: HostRuntime) -> Result<(), Allo
         assert_eq!(rt; with_act(alloc, first)?, fits);
         let second = chosen(alloc, stored(mode), loaded(mode))?;
         assert_eq!(rt; with_act(alloc, second)?, fits);
-        let body = repeated(alloc, Asrt::Emp, loaded(mode))?;
+        let body = repeated(alloc, loaded(mode))?;
         assert_eq!(rt; with_act(alloc, body)?, fits);
     }
     Ok(())
 }
 
-// So many modalities, the last of them over one arm of a choice.
+// One of two assertions, and a modality over the other.
+fn choice(alloc: Global, over: Asrt) -> Result<Asrt, AllocError> {
+    let parts = one(alloc, over)?;
+    let no = Boxed::new(alloc, Asrt::Both { parts })?;
+    let yes = Boxed::new(alloc, Asrt::Emp)?;
+    let cond = Cond::Yes;
+    Ok(Asrt::Choice { cond, yes, no })
+}
+
+fn wrapped(alloc: Global, up: bool, asrt: Asrt) -> Result<Asrt, AllocError> {
+    let a = Boxed::new(alloc, asrt)?;
+    choice(alloc, if up { Asrt::Up { a } } else { Asrt::Down { a } })
+}
+
+// So many modalities, each inside the one before it.
 fn modal(alloc: Global, up: bool, many: u32) -> Result<Asrt, AllocError> {
     let mut asrt = Asrt::Emp;
     for _modality in 0..many {
-        let a = Boxed::new(alloc, asrt)?;
-        let over = if up { Asrt::Up { a } } else { Asrt::Down { a } };
-        let parts = one(alloc, over)?;
-        let yes = Boxed::new(alloc, Asrt::Emp)?;
-        let no = Boxed::new(alloc, Asrt::Both { parts })?;
-        let cond = Cond::Yes;
-        asrt = Asrt::Choice { cond, yes, no };
+        asrt = wrapped(alloc, up, asrt)?;
     }
     Ok(asrt)
+}
+
+fn looped(alloc: Global, inv: Asrt) -> Act {
+    let cond = Cond::Yes;
+    let body = List::new(alloc);
+    Act::While { cond, inv, body }
 }
 
 #[test]
@@ -348,57 +346,57 @@ fn modalities_stand_in_contracts_and_loops_alone(rt: HostRuntime) -> Result<(), 
             let fence = fenced(Mode::Rel, modal(alloc, up, many)?);
             assert_eq!(rt; with_act(alloc, fence)?, anywhere);
             assert_eq!(rt; with_pre(alloc, modal(alloc, up, many)?)?, in_contracts);
-            let inv = modal(alloc, up, many)?;
-            let looped = repeated(alloc, inv, Act::Print { e: one_expr() })?;
-            assert_eq!(rt; with_act(alloc, looped)?, in_contracts);
+            assert_eq!(rt;
+                with_act(alloc, looped(alloc, modal(alloc, up, many)?))?,
+                in_contracts
+            );
         }
     }
     Ok(())
 }
 
-fn with_contract(pre: Asrt, post: Asrt) -> Draft {
-    let mut draft = Draft::plain();
-    draft.pre = pre;
-    draft.post = post;
-    draft
+// The procedure with so many modalities in its contract.
+fn modal_child(alloc: Global, pre: u32, post: u32) -> Result<Proc, AllocError> {
+    let mut child = named(alloc, "child", 1)?;
+    child.pre = modal(alloc, true, pre)?;
+    child.post = modal(alloc, false, post)?;
+    Ok(child)
 }
 
-fn contracted(alloc: Global, pre: u32, post: u32) -> Result<Draft, AllocError> {
-    let pre = modal(alloc, true, pre)?;
-    let post = modal(alloc, false, post)?;
-    Ok(with_contract(pre, post))
+fn with_child(alloc: Global, child: Proc, act: Act) -> Result<bool, AllocError> {
+    let body = block(alloc, act)?;
+    let mut draft = plain(alloc)?;
+    draft.child = child;
+    draft.main.body = body;
+    is_program(alloc, draft)
 }
 
 #[test]
 fn a_thread_has_a_contract_without_modalities(rt: HostRuntime) -> Result<(), AllocError> {
     let alloc = rt.alloc();
     for (pre, post, fits) in [(0, 0, true), (1, 0, false), (0, 1, false)] {
-        let mut draft = contracted(alloc, pre, post)?;
-        draft.act = forked(alloc, 0, 1)?;
-        assert_eq!(rt; draft.is_program(alloc)?, fits);
-        let mut draft = contracted(alloc, pre, post)?;
-        draft.act = called(alloc, 0, 1)?;
-        assert!(rt; draft.is_program(alloc)?);
+        let child = modal_child(alloc, pre, post)?;
+        assert_eq!(rt; with_child(alloc, child, forked(alloc, 0, 1)?)?, fits);
+        let child = modal_child(alloc, pre, post)?;
+        assert!(rt; with_child(alloc, child, called(alloc, 0, 1)?)?);
     }
     Ok(())
+}
+
+fn with_main(alloc: Global, main: Proc) -> Result<bool, AllocError> {
+    let mut draft = plain(alloc)?;
+    draft.main = main;
+    is_program(alloc, draft)
 }
 
 #[test]
 fn main_has_neither_parameters_nor_requires(rt: HostRuntime) -> Result<(), AllocError> {
     let alloc = rt.alloc();
-    for (main, main_params, owns, fits) in [
-        ("main", 0, false, true),
-        ("mane", 0, false, false),
-        ("main", 1, false, false),
-        ("main", 0, true, false),
-    ] {
-        let mut draft = Draft::plain();
-        draft.main = main;
-        draft.main_params = main_params;
-        if owns {
-            draft.main_pre = Asrt::Init { at: one_expr() };
-        }
-        assert_eq!(rt; draft.is_program(alloc)?, fits);
+    for (name, params, fits) in [("main", 0, true), ("mane", 0, false), ("main", 1, false)] {
+        assert_eq!(rt; with_main(alloc, named(alloc, name, params)?)?, fits);
     }
+    let mut main = named(alloc, "main", 0)?;
+    main.pre = Asrt::Init { at: one_expr() };
+    assert!(rt; !with_main(alloc, main)?);
     Ok(())
 }
