@@ -8,8 +8,8 @@ use Rattle.fsl_base.proofs.span.Span.TheSendSync.{the_field_sync as span_sync}
 use Rattle.fsl_core.proofs.assertion.Asrt.TheLaws.TheKnot.{sync-Asrt}
 use Rattle.fsl_core.proofs.act.Act.TheLaws.TheKnot.{sync-Stmt}
 use Rattle.fsl_core.proofs.expr.Expr.TheLaws.TheKnot.{sync-Expr}
-use Rattle.fsl_core.specs.contracts.program.Inv as Inv
-use Rattle.fsl_core.specs.contracts.program.Proc as Proc
+use Rattle.fsl_core.specs.contracts.declaration.Inv as Inv
+use Rattle.fsl_core.specs.contracts.declaration.Proc as Proc
 use Rattle.fsl_core.specs.contracts.program.Program as Program
 use Rattle.fsl_core.specs.contracts.assertion.Asrt as Asrt
 use Rattle.fsl_core.specs.contracts.assertion.Inst as Inst
