@@ -29,7 +29,7 @@ impl<'a> Work for Procedures<'a> {
         self.count
     }
 
-    #[tactic(auto, using(crate::proofs::Procedures::found, crate::proofs::Procedures::within))]
+    #[tactic(auto, using(crate::proofs::Procedures::found))]
     fn outcome(&self, alloc: Global, unit: u32) -> Result<Outcome, AllocError> {
         outcome(alloc, self.program, unit)
     }
