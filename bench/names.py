@@ -9,11 +9,10 @@ prints the seconds of processor time of the best of nine runs, less those of an 
 number before.
 """
 
-import os
-import subprocess
-import sys
 import tempfile
 from pathlib import Path
+
+from timing import best, program
 
 COUNTS = (1024, 2048, 4096)
 
@@ -29,35 +28,29 @@ def full(number):
     return "proc p%d() { %s }" % (number, " ".join(names + uses + [call]))
 
 
-def run(program, path):
-    """Seconds of processor time of one run, which must find no fault of names and types."""
-    child = subprocess.Popen([program, "check", path], stdout=subprocess.PIPE)
-    out = child.stdout.read()
-    _, _, usage = os.wait4(child.pid, 0)
-    if not out.startswith((b"accepted", b"failed", b"refused form")):
-        sys.exit("bench: the program answered %r" % out)
-    return usage.ru_utime + usage.ru_stime
+def is_well_typed(run):
+    """Whether no fault of names and types was found."""
+    return run.out.startswith((b"accepted", b"failed", b"refused form"))
 
 
-def best(program, path, text):
-    Path(path).write_text(text)
-    return min(run(program, path) for _ in range(9))
+def seconds(path, text):
+    path.write_text(text)
+    return best(9, is_well_typed, program(), "check", path).seconds
 
 
 def main():
-    program = sys.argv[1] if len(sys.argv) > 1 else str(Path(__file__).resolve().parent.parent / "fslpp")
     with tempfile.TemporaryDirectory() as folder:
-        path = os.path.join(folder, "program.fsl")
-        start = best(program, path, "proc main() { }")
+        path = Path(folder) / "program.fsl"
+        start = seconds(path, "proc main() { }")
         for shape in (empty, full):
             before = None
             for count in COUNTS:
                 lines = [shape(number) for number in range(count - 1)] + ["proc main() { }"]
                 text = "\n".join(lines) + "\n"
-                seconds = best(program, path, text) - start
-                ratio = "" if before is None else "  %.2f times the number before" % (seconds / before)
-                print("%-6s %5d procedures, %7d bytes: %.4f s%s" % (shape.__name__, count, len(text), seconds, ratio))
-                before = seconds
+                took = seconds(path, text) - start
+                ratio = "" if before is None else "  %.2f times the number before" % (took / before)
+                print("%-6s %5d procedures, %7d bytes: %.4f s%s" % (shape.__name__, count, len(text), took, ratio))
+                before = took
 
 
 if __name__ == "__main__":

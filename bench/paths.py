@@ -9,14 +9,13 @@ the microseconds for each path, their ratio to those of the number before, and t
 growth since the number before.
 """
 
-import os
-import subprocess
 import sys
 import tempfile
 from pathlib import Path
 
+from timing import answers, best, program
+
 LENGTHS = (12, 14, 16)
-RUNS = 3
 
 
 def branching(length):
@@ -27,38 +26,27 @@ def branching(length):
     return "\n".join(lines + ["}", "proc main() { }"]) + "\n"
 
 
-def run(program, path, want):
-    """Seconds of processor time and the greatest resident set in bytes of one run, which must answer so."""
-    child = subprocess.Popen([program, "check", path], stdout=subprocess.PIPE)
-    out = child.stdout.read()
-    _, status, usage = os.wait4(child.pid, 0)
-    if out != want or status != 0:
-        sys.exit("bench: the program answered %r" % out)
-    return usage.ru_utime + usage.ru_stime, usage.ru_maxrss * 1024
-
-
-def best(program, path, text, want):
-    Path(path).write_text(text)
-    runs = [run(program, path, want) for _ in range(RUNS)]
-    return min(r[0] for r in runs), min(r[1] for r in runs)
+def took(path, text, procedures):
+    """The best of three runs, which must accept so many procedures."""
+    path.write_text(text)
+    return best(3, answers(b"accepted %d\n" % procedures), program(), "check", path)
 
 
 def main():
-    program = sys.argv[1] if len(sys.argv) > 1 else str(Path(__file__).resolve().parent.parent / "fslpp")
-    lengths = [int(word) for word in sys.argv[2:]] or LENGTHS
     with tempfile.TemporaryDirectory() as folder:
-        path = os.path.join(folder, "program.fsl")
-        start, _ = best(program, path, "proc main() { }\n", b"accepted 1\n")
+        path = Path(folder) / "program.fsl"
+        start = took(path, "proc main() { }\n", 1).seconds
         before = None
-        for length in lengths:
-            seconds, memory = best(program, path, branching(length), b"accepted 2\n")
-            each = (seconds - start) / 2**length
+        for length in [int(word) for word in sys.argv[2:]] or LENGTHS:
+            run = took(path, branching(length), 2)
+            seconds = run.seconds - start
+            each = seconds / 2**length
             ratio = "" if before is None else "; a path %.2f times, memory %.2f times the number before" % (
                 each / before[0],
-                memory / before[1],
+                run.memory / before[1],
             )
-            print("2^%d paths: %.3f s, %.1f microseconds a path, %.1f MB%s" % (length, seconds - start, each * 1e6, memory / 1e6, ratio))
-            before = each, memory
+            print("2^%d paths: %.3f s, %.1f microseconds a path, %.1f MB%s" % (length, seconds, each * 1e6, run.memory / 1e6, ratio))
+            before = each, run.memory
 
 
 if __name__ == "__main__":

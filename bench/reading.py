@@ -9,12 +9,11 @@ seconds of the processor in the best of five runs, the tokens for each of these 
 those of the size before, and how many bytes of memory the run took for each byte of the file.
 """
 
-import os
 import re
-import subprocess
-import sys
 import tempfile
 from pathlib import Path
+
+from timing import best, program
 
 SIZES = (250_000, 500_000, 1_000_000)
 PROCEDURES = (
@@ -60,31 +59,24 @@ def text_of(size):
         number += 1
 
 
-def run(program, path):
-    """Processor seconds, the greatest resident set in bytes, and the answer of one run, which is a verdict or a refusal."""
-    child = subprocess.Popen([program, "check", path], stdout=subprocess.PIPE)
-    out = child.stdout.read()
-    _, status, usage = os.wait4(child.pid, 0)
-    if os.waitstatus_to_exitcode(status) not in (0, 1, 3):
-        sys.exit("bench: the program answered %r" % out)
-    return usage.ru_utime + usage.ru_stime, usage.ru_maxrss * 1024, out.decode().strip()
+def is_read(run):
+    """Whether the answer is a verdict or a refusal."""
+    return run.status in (0, 1, 3)
 
 
 def main():
-    program = sys.argv[1] if len(sys.argv) > 1 else str(Path(__file__).resolve().parent.parent / "fslpp")
     with tempfile.TemporaryDirectory() as folder:
-        path = str(Path(folder) / "program.fsl")
+        path = Path(folder) / "program.fsl"
         before = None
         for size in SIZES:
             text = text_of(size)
             tokens = len(TOKEN.findall(COMMENT.sub("", text)))
-            Path(path).write_text(text)
-            runs = [run(program, path) for _ in range(5)]
-            seconds, memory = min(r[0] for r in runs), min(r[1] for r in runs)
-            ratio = "" if before is None else ", %.2f times the size before" % (seconds / before)
+            path.write_text(text)
+            took = best(5, is_read, program(), "check", path)
+            ratio = "" if before is None else ", %.2f times the size before" % (took.seconds / before)
             print("%7d bytes, %6d tokens, %s: %.3f s, %.2f million tokens a second%s; %.0f bytes of memory a byte"
-                  % (len(text), tokens, runs[0][2], seconds, tokens / seconds / 1e6, ratio, memory / len(text)))
-            before = seconds
+                  % (len(text), tokens, took.out.decode().strip(), took.seconds, tokens / took.seconds / 1e6, ratio, took.memory / len(text)))
+            before = took.seconds
 
 
 if __name__ == "__main__":

@@ -9,11 +9,10 @@ each shape and size it prints the moves a second (processor time, the best of 25
 to the size before.
 """
 
-import os
-import subprocess
-import sys
 import tempfile
 from pathlib import Path
+
+from timing import best, program, refuse
 
 SIZES = (15_000, 30_000, 60_000)
 CELLS = 100
@@ -35,35 +34,25 @@ def prints(count):
     return ["print(7);"] * count
 
 
-def seconds(program, action, path):
-    """Processor seconds of one run, and what it writes."""
-    child = subprocess.Popen([program, action, path], stdout=subprocess.PIPE)
-    out = child.stdout.read()
-    _, status, usage = os.wait4(child.pid, 0)
-    if status != 0:
-        sys.exit("bench: the program answered %r" % out[:200])
-    return usage.ru_utime + usage.ru_stime, out
-
-
-def best(program, action, path):
-    return min(seconds(program, action, path)[0] for _ in range(25))
+def took(action, path):
+    """The best of 25 runs that end well."""
+    return best(25, lambda run: run.status == 0, program(), action, path)
 
 
 def main():
-    program = sys.argv[1] if len(sys.argv) > 1 else str(Path(__file__).resolve().parent.parent / "fslpp")
     with tempfile.TemporaryDirectory() as folder:
-        path = str(Path(folder) / "program.fsl")
+        path = Path(folder) / "program.fsl"
         for shape in (stores, cells, prints):
             before = None
             for size in SIZES:
-                Path(path).write_text("proc main() {\n" + "\n".join(shape(size)) + "\n}\n")
-                out = seconds(program, "run", path)[1]
-                if b"thread 0 proc 0 moves %d args\n" % (size + 1) not in out:
-                    sys.exit("bench: the run made other moves")
-                took = best(program, "run", path) - best(program, "check", path)
-                ratio = "" if before is None else "  %.2f times the size before" % (took / before)
-                print("%-6s %5d statements: %.3f s, %.0f moves a second%s" % (shape.__name__, size, took, size / took, ratio))
-                before = took
+                path.write_text("proc main() {\n" + "\n".join(shape(size)) + "\n}\n")
+                ran = took("run", path)
+                if b"thread 0 proc 0 moves %d args\n" % (size + 1) not in ran.out:
+                    refuse(ran.out)
+                seconds = ran.seconds - took("check", path).seconds
+                ratio = "" if before is None else "  %.2f times the size before" % (seconds / before)
+                print("%-6s %5d statements: %.3f s, %.0f moves a second%s" % (shape.__name__, size, seconds, size / seconds, ratio))
+                before = seconds
 
 
 if __name__ == "__main__":

@@ -12,9 +12,9 @@ The ratio to processes tells what sharing costs also on a machine that does othe
 
 import os
 import subprocess
-import sys
 import time
-from pathlib import Path
+
+import timing
 
 UNITS = 1000
 PAIRS = 2000
@@ -35,7 +35,7 @@ def run(program, work, units, workers, processes=1):
     seconds = time.perf_counter() - start
     want = b"%d units on %d workers: accepted %d\n" % (units // processes, workers, units // processes)
     if any(out != want for out in outs):
-        sys.exit("bench: the program answered %r" % outs)
+        timing.refuse(b"".join(outs))
     return seconds
 
 
@@ -45,8 +45,7 @@ def best(program, work, units, workers, processes=1):
 
 
 def main():
-    built = Path(__file__).resolve().parent.parent / "crates" / "bench_workers" / "out" / "bench_workers"
-    program = sys.argv[1] if len(sys.argv) > 1 else str(built)
+    program = timing.program("crates/bench_workers/out/bench_workers")
     print("%d processors, %.1f processes at work before" % (os.cpu_count(), os.getloadavg()[0]))
     alone = None
     for workers in WORKERS:
