@@ -9,15 +9,6 @@ use crate::program::Program;
 use fsl_base::{Boxed, List, Span, Text};
 use std::alloc::{AllocError, Global};
 
-// A program's parts: an invariant with one parameter and two parts, a procedure with one parameter, and `main` behind
-// it with one statement.
-#[derive(Drop)]
-struct Draft {
-    invs: List<Inv>,
-    child: Proc,
-    main: Proc,
-}
-
 fn one_expr() -> Expr {
     Expr::Const { n: 1 }
 }
@@ -27,22 +18,33 @@ fn block(alloc: Global, act: Act) -> Result<List<Stmt>, AllocError> {
     one(alloc, Stmt { span, act })
 }
 
-fn procedure(alloc: Global, name: Text, params: u32) -> Proc {
-    Proc {
+fn procedure(
+    alloc: Global,
+    name: &str,
+    params: u32,
+    contract: (Asrt, Asrt),
+    body: List<Stmt>,
+) -> Result<Proc, AllocError> {
+    let (pre, post) = contract;
+    let name = Text::from_str(alloc, name)?;
+    Ok(Proc {
         name,
         params,
         slots: params,
         banks: List::new(alloc),
-        pre: Asrt::Emp,
-        post: Asrt::Emp,
-        body: List::new(alloc),
+        pre,
+        post,
+        body,
         last: Span { from: 0, to: 0 },
-    }
+    })
 }
 
-fn named(alloc: Global, name: &str, params: u32) -> Result<Proc, AllocError> {
-    let name = Text::from_str(alloc, name)?;
-    Ok(procedure(alloc, name, params))
+fn main_of(alloc: Global, body: List<Stmt>) -> Result<Proc, AllocError> {
+    procedure(alloc, "main", 0, (Asrt::Emp, Asrt::Emp), body)
+}
+
+fn child_of(alloc: Global, pre: Asrt, post: Asrt) -> Result<Proc, AllocError> {
+    procedure(alloc, "child", 1, (pre, post), List::new(alloc))
 }
 
 fn parts(alloc: Global, part: Asrt) -> Result<List<Asrt>, AllocError> {
@@ -67,40 +69,46 @@ fn invariants(alloc: Global, part: Asrt) -> Result<List<Inv>, AllocError> {
     )
 }
 
-// The parts of a well-formed program.
-fn plain(alloc: Global) -> Result<Draft, AllocError> {
-    let invs = invariants(alloc, Asrt::Emp)?;
-    let child = named(alloc, "child", 1)?;
-    let main = named(alloc, "main", 0)?;
-    Ok(Draft { invs, child, main })
-}
-
-// Whether they are a program.
-fn is_program(alloc: Global, draft: Draft) -> Result<bool, AllocError> {
-    let Draft { invs, child, main } = draft;
+// Whether an invariant with one parameter and two parts, a procedure with one parameter and `main` are a program.
+fn is_program(alloc: Global, invs: List<Inv>, child: Proc, main: Proc) -> Result<bool, AllocError> {
     let mut procs = one(alloc, child)?;
     procs.push(main)?;
     Ok(Program::new(invs, procs).is_some())
 }
 
+fn with_procs(alloc: Global, child: Proc, main: Proc) -> Result<bool, AllocError> {
+    let invs = invariants(alloc, Asrt::Emp)?;
+    is_program(alloc, invs, child, main)
+}
+
+fn with_main(alloc: Global, main: Proc) -> Result<bool, AllocError> {
+    let child = child_of(alloc, Asrt::Emp, Asrt::Emp)?;
+    with_procs(alloc, child, main)
+}
+
+fn with_child(alloc: Global, child: Proc, act: Act) -> Result<bool, AllocError> {
+    let body = block(alloc, act)?;
+    let main = main_of(alloc, body)?;
+    with_procs(alloc, child, main)
+}
+
 fn with_act(alloc: Global, act: Act) -> Result<bool, AllocError> {
     let body = block(alloc, act)?;
-    let mut draft = plain(alloc)?;
-    draft.main.body = body;
-    is_program(alloc, draft)
+    let main = main_of(alloc, body)?;
+    with_main(alloc, main)
 }
 
 fn with_pre(alloc: Global, pre: Asrt) -> Result<bool, AllocError> {
-    let mut draft = plain(alloc)?;
-    draft.child.pre = pre;
-    is_program(alloc, draft)
+    let child = child_of(alloc, pre, Asrt::Emp)?;
+    let main = main_of(alloc, List::new(alloc))?;
+    with_procs(alloc, child, main)
 }
 
 fn with_part(alloc: Global, part: Asrt) -> Result<bool, AllocError> {
     let invs = invariants(alloc, part)?;
-    let mut draft = plain(alloc)?;
-    draft.invs = invs;
-    is_program(alloc, draft)
+    let child = child_of(alloc, Asrt::Emp, Asrt::Emp)?;
+    let main = main_of(alloc, List::new(alloc))?;
+    is_program(alloc, invs, child, main)
 }
 
 fn args(alloc: Global, many: u32) -> Result<List<Expr>, AllocError> {
@@ -357,46 +365,45 @@ fn modalities_stand_in_contracts_and_loops_alone(rt: HostRuntime) -> Result<(), 
 
 // The procedure with so many modalities in its contract.
 fn modal_child(alloc: Global, pre: u32, post: u32) -> Result<Proc, AllocError> {
-    let mut child = named(alloc, "child", 1)?;
-    child.pre = modal(alloc, true, pre)?;
-    child.post = modal(alloc, false, post)?;
-    Ok(child)
+    let pre = modal(alloc, true, pre)?;
+    let post = modal(alloc, false, post)?;
+    child_of(alloc, pre, post)
 }
 
-fn with_child(alloc: Global, child: Proc, act: Act) -> Result<bool, AllocError> {
-    let body = block(alloc, act)?;
-    let mut draft = plain(alloc)?;
-    draft.child = child;
-    draft.main.body = body;
-    is_program(alloc, draft)
+fn forks(alloc: Global, pre: u32, post: u32) -> Result<bool, AllocError> {
+    let child = modal_child(alloc, pre, post)?;
+    let act = forked(alloc, 0, 1)?;
+    with_child(alloc, child, act)
+}
+
+fn calls(alloc: Global, pre: u32, post: u32) -> Result<bool, AllocError> {
+    let child = modal_child(alloc, pre, post)?;
+    let act = called(alloc, 0, 1)?;
+    with_child(alloc, child, act)
 }
 
 #[test]
 fn a_thread_has_a_contract_without_modalities(rt: HostRuntime) -> Result<(), AllocError> {
     let alloc = rt.alloc();
     for (pre, post, fits) in [(0, 0, true), (1, 0, false), (0, 1, false)] {
-        let child = modal_child(alloc, pre, post)?;
-        assert_eq!(rt; with_child(alloc, child, forked(alloc, 0, 1)?)?, fits);
-        let child = modal_child(alloc, pre, post)?;
-        assert!(rt; with_child(alloc, child, called(alloc, 0, 1)?)?);
+        assert_eq!(rt; forks(alloc, pre, post)?, fits);
+        assert!(rt; calls(alloc, pre, post)?);
     }
     Ok(())
 }
 
-fn with_main(alloc: Global, main: Proc) -> Result<bool, AllocError> {
-    let mut draft = plain(alloc)?;
-    draft.main = main;
-    is_program(alloc, draft)
+fn started(alloc: Global, name: &str, params: u32, pre: Asrt) -> Result<bool, AllocError> {
+    let main = procedure(alloc, name, params, (pre, Asrt::Emp), List::new(alloc))?;
+    with_main(alloc, main)
 }
 
 #[test]
 fn main_has_neither_parameters_nor_requires(rt: HostRuntime) -> Result<(), AllocError> {
     let alloc = rt.alloc();
     for (name, params, fits) in [("main", 0, true), ("mane", 0, false), ("main", 1, false)] {
-        assert_eq!(rt; with_main(alloc, named(alloc, name, params)?)?, fits);
+        assert_eq!(rt; started(alloc, name, params, Asrt::Emp)?, fits);
     }
-    let mut main = named(alloc, "main", 0)?;
-    main.pre = Asrt::Init { at: one_expr() };
-    assert!(rt; !with_main(alloc, main)?);
+    let owned = Asrt::Init { at: one_expr() };
+    assert!(rt; !started(alloc, "main", 0, owned)?);
     Ok(())
 }
