@@ -19,7 +19,7 @@ returns-in-Some-3 c =
     let v = c.in-Some-2.v in
     let cell = c.in-Some-3.c in
     let found : IsFoundBy Plain s.chunks (first (cell_at Plain a s.facts) s.chunks) (Some cell) =
-      subst (λ (o : Option FoundCell). IsFoundBy Plain s.chunks (first (cell_at Plain a s.facts) s.chunks) o) c.in-Some-3.is c.in_ok-c.ensures in
+    subst (λ (o : Option FoundCell). IsFoundBy Plain s.chunks (first (cell_at Plain a s.facts) s.chunks) o) c.in-Some-3.is c.in_ok-c.ensures in
     ok_then c.written.result branches _ _
     (sym (store_found at e s a v cell (has_term at s _ _ a c.env.ensures c.in_ok-a.ensures c.in-Some.is) (has_term e s _ _ v c.env-2.ensures c.in_ok-v.ensures c.in-Some-2.is) found))
     c.written.ensures
