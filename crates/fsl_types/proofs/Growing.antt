@@ -59,7 +59,8 @@ none_kept test k ks e = none_first (test k) k (filter test ks) e
 keeps : (o : Occurrence) → faults_at o ≡ [] → Keeps o
 keeps o e =
     let test : TypeKind → Bool = λ what. breaks what o in
-    let one = none_kept test kind.Unknown (kind.Twice ∷ kind.Type_ ∷ kind.Arity ∷ kind.Modal ∷ kind.Parts ∷ kind.Count ∷ kind.NoMain ∷ []) (none_mapped (fault_at (place_of o)) (filter test kinds) e) in
+    let one = none_kept test kind.Unknown (kind.Twice ∷ kind.Type_ ∷ kind.Arity ∷ kind.Modal ∷ kind.Parts ∷ kind.Count ∷ kind.NoMain ∷ [])
+    (none_mapped (fault_at (place_of o)) (filter test kinds) e) in
     let two = none_kept test kind.Twice (kind.Type_ ∷ kind.Arity ∷ kind.Modal ∷ kind.Parts ∷ kind.Count ∷ kind.NoMain ∷ []) one.1 in
     let three = none_kept test kind.Type_ (kind.Arity ∷ kind.Modal ∷ kind.Parts ∷ kind.Count ∷ kind.NoMain ∷ []) two.1 in
     let four = none_kept test kind.Arity (kind.Modal ∷ kind.Parts ∷ kind.Count ∷ kind.NoMain ∷ []) three.1 in
@@ -91,15 +92,31 @@ each_grows judged grow (x ∷ xs) faults e = grow x faults (each_grows judged gr
 
 -- ---- expressions
 
+abbrev GrowingFactor : Sight → Due → Type 0
+GrowingFactor sight wanted = Growing Factor (judged_factor sight wanted)
+
+abbrev GrowingAddend : Sight → Due → Type 0
+GrowingAddend sight wanted = Growing Addend (judged_addend sight wanted)
+
+abbrev GrowingExpression : Sight → Due → Type 0
+GrowingExpression sight wanted = Growing Expression (judged_expression sight wanted)
+
+abbrev GrowingMultiplier : Sight → Due → Type 0
+GrowingMultiplier sight wanted = Growing Multiplier (judged_multiplier sight wanted)
+
+abbrev GrowingTerm : Sight → Due → Type 0
+GrowingTerm sight wanted = Growing Term (judged_term sight wanted)
+
 abbrev FactorParts : Sight → Due → Type 0
-FactorParts sight wanted = Factor-F (Growing Factor (judged_factor sight wanted)) (Growing Addend (judged_addend sight wanted)) (Growing Expression (judged_expression sight wanted)) (Growing Multiplier (judged_multiplier sight wanted)) (Growing Term (judged_term sight wanted))
+FactorParts sight wanted = Factor-F (GrowingFactor sight wanted) (GrowingAddend sight wanted) (GrowingExpression sight wanted) (GrowingMultiplier sight wanted) (GrowingTerm sight wanted)
 
 abbrev bare_factor : (sight : Sight) (wanted : Due) → FactorParts sight wanted → Factor-F Factor Addend Expression Multiplier Term
-bare_factor sight wanted y = map-Factor (Growing Factor (judged_factor sight wanted)) (Growing Addend (judged_addend sight wanted)) (Growing Expression (judged_expression sight wanted)) (Growing Multiplier (judged_multiplier sight wanted)) (Growing Term (judged_term sight wanted))
+bare_factor sight wanted y = map-Factor (GrowingFactor sight wanted) (GrowingAddend sight wanted) (GrowingExpression sight wanted) (GrowingMultiplier sight wanted) (GrowingTerm sight wanted)
     Factor Addend Expression Multiplier Term (λ part. part.0) (λ part. part.0) (λ part. part.0) (λ part. part.0) (λ part. part.0) y
 
 abbrev factor_layer : Sight → Due → Factor-F Factor Addend Expression Multiplier Term → Judged
-factor_layer sight wanted x = factor_judged sight wanted (map-Factor Factor Addend Expression Multiplier Term Judged Judged Judged Judged Judged (judged_factor sight wanted) (judged_addend sight wanted) (judged_expression sight wanted) (judged_multiplier sight wanted) (judged_term sight wanted) x)
+factor_layer sight wanted x = factor_judged sight wanted (map-Factor Factor Addend Expression Multiplier Term Judged Judged Judged Judged Judged
+    (judged_factor sight wanted) (judged_addend sight wanted) (judged_expression sight wanted) (judged_multiplier sight wanted) (judged_term sight wanted) x)
 
 factor_layer_grows : (sight : Sight) (wanted : Due) (y : FactorParts sight wanted) → Grows (factor_layer sight wanted (bare_factor sight wanted y))
 factor_layer_grows sight wanted (Factor-F.Number place value) faults e = e
@@ -111,18 +128,20 @@ factor_layer_grows sight wanted (Factor-F.Group start inside end) faults e = ins
 factor_rolled : (sight : Sight) (wanted : Due) (x : Factor-F Factor Addend Expression Multiplier Term) (y : FactorParts sight wanted) → bare_factor sight wanted y ≡ x
     → Grows (judged_factor sight wanted (roll-Factor x))
 factor_rolled sight wanted x y is =
-    subst Grows (sym (fold-roll-Factor Judged Judged Judged Judged Judged (factor_judged sight wanted) addend_judged expression_judged multiplier_judged term_judged x))
+    subst Grows (sym (fold-roll-Factor Judged Judged Judged Judged Judged
+    (factor_judged sight wanted) addend_judged expression_judged multiplier_judged term_judged x))
     (subst (λ (l : Factor-F Factor Addend Expression Multiplier Term). Grows (factor_layer sight wanted l)) is (factor_layer_grows sight wanted y))
 
 abbrev AddendParts : Sight → Due → Type 0
-AddendParts sight wanted = Addend-F (Growing Factor (judged_factor sight wanted)) (Growing Addend (judged_addend sight wanted)) (Growing Expression (judged_expression sight wanted)) (Growing Multiplier (judged_multiplier sight wanted)) (Growing Term (judged_term sight wanted))
+AddendParts sight wanted = Addend-F (GrowingFactor sight wanted) (GrowingAddend sight wanted) (GrowingExpression sight wanted) (GrowingMultiplier sight wanted) (GrowingTerm sight wanted)
 
 abbrev bare_addend : (sight : Sight) (wanted : Due) → AddendParts sight wanted → Addend-F Factor Addend Expression Multiplier Term
-bare_addend sight wanted y = map-Addend (Growing Factor (judged_factor sight wanted)) (Growing Addend (judged_addend sight wanted)) (Growing Expression (judged_expression sight wanted)) (Growing Multiplier (judged_multiplier sight wanted)) (Growing Term (judged_term sight wanted))
+bare_addend sight wanted y = map-Addend (GrowingFactor sight wanted) (GrowingAddend sight wanted) (GrowingExpression sight wanted) (GrowingMultiplier sight wanted) (GrowingTerm sight wanted)
     Factor Addend Expression Multiplier Term (λ part. part.0) (λ part. part.0) (λ part. part.0) (λ part. part.0) (λ part. part.0) y
 
 abbrev addend_layer : Sight → Due → Addend-F Factor Addend Expression Multiplier Term → Judged
-addend_layer sight wanted x = addend_judged (map-Addend Factor Addend Expression Multiplier Term Judged Judged Judged Judged Judged (judged_factor sight wanted) (judged_addend sight wanted) (judged_expression sight wanted) (judged_multiplier sight wanted) (judged_term sight wanted) x)
+addend_layer sight wanted x = addend_judged (map-Addend Factor Addend Expression Multiplier Term Judged Judged Judged Judged Judged
+    (judged_factor sight wanted) (judged_addend sight wanted) (judged_expression sight wanted) (judged_multiplier sight wanted) (judged_term sight wanted) x)
 
 addend_layer_grows : (sight : Sight) (wanted : Due) (y : AddendParts sight wanted) → Grows (addend_layer sight wanted (bare_addend sight wanted y))
 addend_layer_grows sight wanted y faults e = y.term.1 faults e
@@ -130,18 +149,20 @@ addend_layer_grows sight wanted y faults e = y.term.1 faults e
 addend_rolled : (sight : Sight) (wanted : Due) (x : Addend-F Factor Addend Expression Multiplier Term) (y : AddendParts sight wanted) → bare_addend sight wanted y ≡ x
     → Grows (judged_addend sight wanted (roll-Addend x))
 addend_rolled sight wanted x y is =
-    subst Grows (sym (fold-roll-Addend Judged Judged Judged Judged Judged (factor_judged sight wanted) addend_judged expression_judged multiplier_judged term_judged x))
+    subst Grows (sym (fold-roll-Addend Judged Judged Judged Judged Judged
+    (factor_judged sight wanted) addend_judged expression_judged multiplier_judged term_judged x))
     (subst (λ (l : Addend-F Factor Addend Expression Multiplier Term). Grows (addend_layer sight wanted l)) is (addend_layer_grows sight wanted y))
 
 abbrev ExpressionParts : Sight → Due → Type 0
-ExpressionParts sight wanted = Expression-F (Growing Factor (judged_factor sight wanted)) (Growing Addend (judged_addend sight wanted)) (Growing Expression (judged_expression sight wanted)) (Growing Multiplier (judged_multiplier sight wanted)) (Growing Term (judged_term sight wanted))
+ExpressionParts sight wanted = Expression-F (GrowingFactor sight wanted) (GrowingAddend sight wanted) (GrowingExpression sight wanted) (GrowingMultiplier sight wanted) (GrowingTerm sight wanted)
 
 abbrev bare_expression : (sight : Sight) (wanted : Due) → ExpressionParts sight wanted → Expression-F Factor Addend Expression Multiplier Term
-bare_expression sight wanted y = map-Expression (Growing Factor (judged_factor sight wanted)) (Growing Addend (judged_addend sight wanted)) (Growing Expression (judged_expression sight wanted)) (Growing Multiplier (judged_multiplier sight wanted)) (Growing Term (judged_term sight wanted))
+bare_expression sight wanted y = map-Expression (GrowingFactor sight wanted) (GrowingAddend sight wanted) (GrowingExpression sight wanted) (GrowingMultiplier sight wanted) (GrowingTerm sight wanted)
     Factor Addend Expression Multiplier Term (λ part. part.0) (λ part. part.0) (λ part. part.0) (λ part. part.0) (λ part. part.0) y
 
 abbrev expression_layer : Sight → Due → Expression-F Factor Addend Expression Multiplier Term → Judged
-expression_layer sight wanted x = expression_judged (map-Expression Factor Addend Expression Multiplier Term Judged Judged Judged Judged Judged (judged_factor sight wanted) (judged_addend sight wanted) (judged_expression sight wanted) (judged_multiplier sight wanted) (judged_term sight wanted) x)
+expression_layer sight wanted x = expression_judged (map-Expression Factor Addend Expression Multiplier Term Judged Judged Judged Judged Judged
+    (judged_factor sight wanted) (judged_addend sight wanted) (judged_expression sight wanted) (judged_multiplier sight wanted) (judged_term sight wanted) x)
 
 expression_layer_grows : (sight : Sight) (wanted : Due) (y : ExpressionParts sight wanted) → Grows (expression_layer sight wanted (bare_expression sight wanted y))
 expression_layer_grows sight wanted y faults e = y.first.1 faults (in_turn_grows (judged_addend sight wanted) y.more _ e)
@@ -149,18 +170,20 @@ expression_layer_grows sight wanted y faults e = y.first.1 faults (in_turn_grows
 expression_rolled : (sight : Sight) (wanted : Due) (x : Expression-F Factor Addend Expression Multiplier Term) (y : ExpressionParts sight wanted) → bare_expression sight wanted y ≡ x
     → Grows (judged_expression sight wanted (roll-Expression x))
 expression_rolled sight wanted x y is =
-    subst Grows (sym (fold-roll-Expression Judged Judged Judged Judged Judged (factor_judged sight wanted) addend_judged expression_judged multiplier_judged term_judged x))
+    subst Grows (sym (fold-roll-Expression Judged Judged Judged Judged Judged
+    (factor_judged sight wanted) addend_judged expression_judged multiplier_judged term_judged x))
     (subst (λ (l : Expression-F Factor Addend Expression Multiplier Term). Grows (expression_layer sight wanted l)) is (expression_layer_grows sight wanted y))
 
 abbrev MultiplierParts : Sight → Due → Type 0
-MultiplierParts sight wanted = Multiplier-F (Growing Factor (judged_factor sight wanted)) (Growing Addend (judged_addend sight wanted)) (Growing Expression (judged_expression sight wanted)) (Growing Multiplier (judged_multiplier sight wanted)) (Growing Term (judged_term sight wanted))
+MultiplierParts sight wanted = Multiplier-F (GrowingFactor sight wanted) (GrowingAddend sight wanted) (GrowingExpression sight wanted) (GrowingMultiplier sight wanted) (GrowingTerm sight wanted)
 
 abbrev bare_multiplier : (sight : Sight) (wanted : Due) → MultiplierParts sight wanted → Multiplier-F Factor Addend Expression Multiplier Term
-bare_multiplier sight wanted y = map-Multiplier (Growing Factor (judged_factor sight wanted)) (Growing Addend (judged_addend sight wanted)) (Growing Expression (judged_expression sight wanted)) (Growing Multiplier (judged_multiplier sight wanted)) (Growing Term (judged_term sight wanted))
+bare_multiplier sight wanted y = map-Multiplier (GrowingFactor sight wanted) (GrowingAddend sight wanted) (GrowingExpression sight wanted) (GrowingMultiplier sight wanted) (GrowingTerm sight wanted)
     Factor Addend Expression Multiplier Term (λ part. part.0) (λ part. part.0) (λ part. part.0) (λ part. part.0) (λ part. part.0) y
 
 abbrev multiplier_layer : Sight → Due → Multiplier-F Factor Addend Expression Multiplier Term → Judged
-multiplier_layer sight wanted x = multiplier_judged (map-Multiplier Factor Addend Expression Multiplier Term Judged Judged Judged Judged Judged (judged_factor sight wanted) (judged_addend sight wanted) (judged_expression sight wanted) (judged_multiplier sight wanted) (judged_term sight wanted) x)
+multiplier_layer sight wanted x = multiplier_judged (map-Multiplier Factor Addend Expression Multiplier Term Judged Judged Judged Judged Judged
+    (judged_factor sight wanted) (judged_addend sight wanted) (judged_expression sight wanted) (judged_multiplier sight wanted) (judged_term sight wanted) x)
 
 multiplier_layer_grows : (sight : Sight) (wanted : Due) (y : MultiplierParts sight wanted) → Grows (multiplier_layer sight wanted (bare_multiplier sight wanted y))
 multiplier_layer_grows sight wanted y faults e = y.factor.1 faults e
@@ -168,18 +191,20 @@ multiplier_layer_grows sight wanted y faults e = y.factor.1 faults e
 multiplier_rolled : (sight : Sight) (wanted : Due) (x : Multiplier-F Factor Addend Expression Multiplier Term) (y : MultiplierParts sight wanted) → bare_multiplier sight wanted y ≡ x
     → Grows (judged_multiplier sight wanted (roll-Multiplier x))
 multiplier_rolled sight wanted x y is =
-    subst Grows (sym (fold-roll-Multiplier Judged Judged Judged Judged Judged (factor_judged sight wanted) addend_judged expression_judged multiplier_judged term_judged x))
+    subst Grows (sym (fold-roll-Multiplier Judged Judged Judged Judged Judged
+    (factor_judged sight wanted) addend_judged expression_judged multiplier_judged term_judged x))
     (subst (λ (l : Multiplier-F Factor Addend Expression Multiplier Term). Grows (multiplier_layer sight wanted l)) is (multiplier_layer_grows sight wanted y))
 
 abbrev TermParts : Sight → Due → Type 0
-TermParts sight wanted = Term-F (Growing Factor (judged_factor sight wanted)) (Growing Addend (judged_addend sight wanted)) (Growing Expression (judged_expression sight wanted)) (Growing Multiplier (judged_multiplier sight wanted)) (Growing Term (judged_term sight wanted))
+TermParts sight wanted = Term-F (GrowingFactor sight wanted) (GrowingAddend sight wanted) (GrowingExpression sight wanted) (GrowingMultiplier sight wanted) (GrowingTerm sight wanted)
 
 abbrev bare_term : (sight : Sight) (wanted : Due) → TermParts sight wanted → Term-F Factor Addend Expression Multiplier Term
-bare_term sight wanted y = map-Term (Growing Factor (judged_factor sight wanted)) (Growing Addend (judged_addend sight wanted)) (Growing Expression (judged_expression sight wanted)) (Growing Multiplier (judged_multiplier sight wanted)) (Growing Term (judged_term sight wanted))
+bare_term sight wanted y = map-Term (GrowingFactor sight wanted) (GrowingAddend sight wanted) (GrowingExpression sight wanted) (GrowingMultiplier sight wanted) (GrowingTerm sight wanted)
     Factor Addend Expression Multiplier Term (λ part. part.0) (λ part. part.0) (λ part. part.0) (λ part. part.0) (λ part. part.0) y
 
 abbrev term_layer : Sight → Due → Term-F Factor Addend Expression Multiplier Term → Judged
-term_layer sight wanted x = term_judged (map-Term Factor Addend Expression Multiplier Term Judged Judged Judged Judged Judged (judged_factor sight wanted) (judged_addend sight wanted) (judged_expression sight wanted) (judged_multiplier sight wanted) (judged_term sight wanted) x)
+term_layer sight wanted x = term_judged (map-Term Factor Addend Expression Multiplier Term Judged Judged Judged Judged Judged
+    (judged_factor sight wanted) (judged_addend sight wanted) (judged_expression sight wanted) (judged_multiplier sight wanted) (judged_term sight wanted) x)
 
 term_layer_grows : (sight : Sight) (wanted : Due) (y : TermParts sight wanted) → Grows (term_layer sight wanted (bare_term sight wanted y))
 term_layer_grows sight wanted y faults e = y.first.1 faults (in_turn_grows (judged_multiplier sight wanted) y.more _ e)
@@ -187,7 +212,8 @@ term_layer_grows sight wanted y faults e = y.first.1 faults (in_turn_grows (judg
 term_rolled : (sight : Sight) (wanted : Due) (x : Term-F Factor Addend Expression Multiplier Term) (y : TermParts sight wanted) → bare_term sight wanted y ≡ x
     → Grows (judged_term sight wanted (roll-Term x))
 term_rolled sight wanted x y is =
-    subst Grows (sym (fold-roll-Term Judged Judged Judged Judged Judged (factor_judged sight wanted) addend_judged expression_judged multiplier_judged term_judged x))
+    subst Grows (sym (fold-roll-Term Judged Judged Judged Judged Judged
+    (factor_judged sight wanted) addend_judged expression_judged multiplier_judged term_judged x))
     (subst (λ (l : Term-F Factor Addend Expression Multiplier Term). Grows (term_layer sight wanted l)) is (term_layer_grows sight wanted y))
 
 pub expression_grows : (sight : Sight) (wanted : Due) (e : Expression) → Grows (judged_expression sight wanted e)
