@@ -9,4 +9,5 @@ pub mod Scanning
 pub mod Setting
 pub mod Slots
 pub mod Stepping
+pub mod Straight
 pub mod Walking

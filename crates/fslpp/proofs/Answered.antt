@@ -1,12 +1,10 @@
 -- What is known of an answer once it is composed, and of the words once they are read.
-use Rattle.std.proofs.Common.{◌≡◌, ℕ, List, Option, None, Some, Result, Ok, Err, IfOk, sym, subst, refl}
+use Rattle.std.proofs.Common.{◌≡◌, ℕ, List, Some, Result, Ok, Err, IfOk}
 use Rattle.fsl_core.specs.Programs.{Program}
 use Rattle.fslpp.specs.declared.answer.Answer.{Answer}
 use Rattle.fslpp.specs.declared.command.Command.TheVariants.{Check, Run}
 use Rattle.fslpp.specs.declared.refused.Unread.{Unread}
-use Rattle.fslpp.specs.declared.status.Status.{Status}
-use Rattle.fslpp.specs.Answers.{Reading, Writing, HasCause, IsProgramOf, IsChecked, judged, refused, IsSaid, IsAnswered, IsRan, IsRunAnswer, fails, runs, has_program, has_none, answer, run_answer, verdict_answer, verdict_status, refusal}
-use Rattle.fslpp.specs.Texts.{usage}
+use Rattle.fslpp.specs.Answers.{Reading, HasCause, IsProgramOf, IsChecked, judged, refused, IsRan, IsRunAnswer, runs, has_program, has_none, run_answer, verdict_answer, verdict_status, refusal}
 use Rattle.fsl_core.specs.logic.Verdicts.{verdict_of}
 use Rattle.fsl_machine.specs.declared.ends.End.{End}
 use Rattle.fsl_graph.specs.declared.graph.Graph.{Graph}

@@ -1,5 +1,4 @@
 pub mod Answered
 pub mod Only
 pub mod Refusing
-pub mod Straight
 pub mod Unread

@@ -1,5 +1,5 @@
 -- A text of a refusal makes its answer.
-use Rattle.std.proofs.Common.{◌≡◌, ℕ, List, Option, Some, None, ap, option_map}
+use Rattle.std.proofs.Common.{◌≡◌, ℕ, List, Some, ap, option_map}
 use Rattle.fslpp.specs.declared.refused.Refused.{Refused}
 use Rattle.fslpp.specs.declared.refused.Refused.TheVariants as refusals
 use Rattle.fslpp.specs.Answers.{answer, refusal_of}

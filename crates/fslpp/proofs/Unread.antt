@@ -1,7 +1,6 @@
 -- Why bytes are no program that a command covers: they have no tokens, no tree has their tokens, or their tree has
 -- faults or isn't covered.
-use Rattle.std.proofs.Common.{◌≡◌, ◌≤◌, inl, inr, Bool, true, false, ℕ, List, [], Result, Ok, Err, Option, Some, None, length, sym, ap, ◌∙◌}
-use Rattle.std.specs.Prelude.{IsTrue}
+use Rattle.std.proofs.Common.{◌≡◌, inl, inr, true, false, ℕ, List, [], Ok, Err, Some, None, length, sym, ap, subst, ◌∙◌}
 use Rattle.fsl_base.specs.declared.span.Span.{Span}
 use Rattle.fsl_core.specs.Programs.{Program}
 use Rattle.fsl_parse.specs.declared.fault.ParseFault.TheVariants as parse_faults
@@ -16,11 +15,12 @@ use Rattle.fsl_types.specs.declared.fault.TypeKind.{TypeKind}
 use Rattle.fsl_types.specs.Faults.{fault_at, least_fault}
 use Rattle.fsl_types.specs.Predicates.{has_predicates}
 use Rattle.fsl_types.specs.Programs.{faults_of, program_of}
-use Rattle.fsl_types.specs.Reading.{IsTreeOf, ReadsAs}
+use Rattle.fsl_types.specs.Reading.{IsTreeOf}
 use Rattle.fslpp.specs.declared.command.Command.{Command}
 use Rattle.fslpp.specs.declared.refused.Refused.{Refused}
 use Rattle.fslpp.specs.declared.refused.Refused.TheVariants as refusals
-use Rattle.fslpp.specs.Answers.{Reading, HasFile, CausedBy}
+use Rattle.fslpp.specs.declared.refused.Unread.{Unread}
+use Rattle.fslpp.specs.Answers.{Reading, HasFile, CausedBy, HasCause}
 use Rattle.fslpp.specs.Covered.{covers}
 use Rattle.fslpp.specs.Refusals.{IsNoProgram, IsUnread}
 
@@ -85,3 +85,8 @@ cause_of command r bytes refusals.Form file why = record { file = file; why = wh
 cause_of command r bytes refusals.NoMemory file why = tt
 cause_of command r bytes refusals.Read file why = absurd why.has
 cause_of command r bytes refusals.Size file why = absurd why.has
+
+-- the cause of a fault before the file was read
+pub no_bytes : (command : Command) (r : Reading) (fault : Refused) (unread : Unread) → unread ≡ record { bytes = []; fault = fault }
+    → ((any : Command) → CausedBy any r [] fault) → HasCause command r unread
+no_bytes command r fault unread is cause = subst (λ (u : Unread). HasCause command r u) (sym is) (cause command)

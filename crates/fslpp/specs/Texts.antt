@@ -1,5 +1,5 @@
 -- The texts of answers. Each ends with a line feed.
-use Rattle.std.specs.Prelude.{ℕ, List, [], ◌∷◌, ◌++◌, codes, slice_get, Option, Some, None}
+use Rattle.std.specs.Prelude.{ℕ, List, [], ◌++◌, codes, slice_get, Option, Some, None}
 use Rattle.std.specs.Fmt.{decimal}
 use Rattle.fsl_core.specs.Programs.{Program}
 use Rattle.fsl_core.specs.declared.declaration.Proc.{Proc}

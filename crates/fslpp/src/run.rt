@@ -43,7 +43,6 @@ fn ended(alloc: Global, ran: &Ran) -> Result<Answer, AllocError>
 }
 
 /// The answer on a program that was read: its verdict where it fails, else a run of it.
-#[tactic(auto, using(crate::proofs::Straight::built))]
 fn judged<R: Threads + Sync, G: Gate>(
     rt: &R,
     alloc: Global,

@@ -1,4 +1,4 @@
--- The paths of a straight program are followed, so `run` judges it as `check` does.
+-- The paths of a straight program are followed.
 use Rattle.std.proofs.Common.{◌≡◌, ℕ, Bool, true, ◌&&◌, List, [], ◌∷◌, refl, sym, ap, ◌∙◌}
 use Rattle.std.specs.List.{list_all}
 use Rattle.std.proofs.lemmas.Bool.{and_parts}
