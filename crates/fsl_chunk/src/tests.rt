@@ -1,4 +1,10 @@
 //! Tests of what no clause says: that calls find memory where there is some, on a few chunks and facts.
+ghost use Rattle.std.specs.Prelude.{◌≡◌, ◌<◌, Some, IfOk, length, slice_get};
+ghost use Rattle.std.specs.Option.{option_map};
+ghost use Rattle.fsl_core.specs.declared.mode.Rung.TheVariants.{Plain};
+ghost use Rattle.fsl_chunk.specs.Listed.{kind_of, rung_of};
+ghost use Rattle.fsl_chunk.specs.declared.kind.ChunkKind.TheVariants.{Points};
+
 use crate::{ChunkKind, Env, Heap, HeapFault, Made, State, Want, Went};
 use fsl_core::{Chunk, Kind, Rung};
 use fsl_lin::{Lin, LinFault, Sym};
@@ -15,7 +21,10 @@ fn number(alloc: Global, n: i128) -> Result<Lin, AllocError> {
     known(Lin::constant(alloc, n))
 }
 
-fn cell(alloc: Global, at: i128, share: i128) -> Result<Chunk, AllocError> {
+fn cell(alloc: Global, at: i128, share: i128) -> Result<Chunk, AllocError>
+    ensures kind { IfOk result (λ c. kind_of c ≡ Points) }
+    ensures rung { IfOk result (λ c. rung_of c ≡ Plain) }
+{
     let at = number(alloc, at)?;
     let share = number(alloc, share)?;
     Ok(Chunk::Points {
@@ -172,5 +181,121 @@ fn set_to_four(alloc: Global) -> Result<(Option<i128>, Option<i128>), AllocError
 fn sets_a_variable_of_one_copy(rt: HostRuntime) -> Result<(), AllocError> {
     let alloc = rt.alloc();
     assert_eq!(rt; set_to_four(alloc)?, (Some(4), Some(0)));
+    Ok(())
+}
+
+// How many shares a chunk is, where it is a cell.
+fn share_of(chunk: &Chunk) -> Option<i128> {
+    match chunk {
+        Chunk::Points { share, .. } => Some(share.rest()),
+        _ => None,
+    }
+}
+
+fn first_share(heap: &Heap) -> Option<i128> {
+    if heap.len() > 0 {
+        share_of(heap.at(0))
+    } else {
+        None
+    }
+}
+
+// The shares of a heap's only cell once it was replaced, and in a copy that was made before.
+fn replaced(alloc: Global) -> Result<(Option<i128>, Option<i128>), HeapFault> {
+    let mut heap = Heap::new(alloc)?;
+    let old = cell(alloc, 1, 5)?;
+    heap.add(alloc, old)?;
+    let before = heap.fork(alloc)?;
+    let by = cell(alloc, 1, 7)?;
+    heap.replace(alloc, 0, by)?;
+    Ok((first_share(&heap), first_share(&before)))
+}
+
+#[test]
+fn replaces_a_chunk_of_one_copy(rt: HostRuntime) -> Result<(), HeapFault> {
+    let alloc = rt.alloc();
+    assert_eq!(rt; replaced(alloc)?, (Some(7), Some(5)));
+    Ok(())
+}
+
+// A state with one variable, which is 0, and a cell of 5 shares.
+fn small(alloc: Global) -> Result<State, AllocError>
+    ensures some { IfOk result (λ s. 0 < length s.chunks) }
+    ensures kind { IfOk result (λ s. option_map kind_of (slice_get s.chunks 0) ≡ Some Points) }
+    ensures rung { IfOk result (λ s. option_map rung_of (slice_get s.chunks 0) ≡ Some Plain) }
+{
+    let mut env = Env::new(alloc);
+    env.push(alloc, number(alloc, 0)?)?;
+    let state = State::new(alloc, env)?;
+    let cell = cell(alloc, 1, 5)?;
+    match state.add(alloc, cell)? {
+        Went::Goes { state } => Ok(state),
+        _ => Err(AllocError),
+    }
+}
+
+// What is done to a state.
+#[derive(Clone, Copy)]
+enum Change {
+    Put,
+    Take,
+    DropChunks,
+    Set { slot: u32 },
+    SetEnv,
+}
+
+// What is seen of a state: how many chunks, the shares of the first, and the last variable.
+fn seen(state: &State) -> (u32, Option<i128>, Option<i128>) {
+    let heap = state.heap();
+    (heap.len(), first_share(heap), rest_of(state.env().last()))
+}
+
+fn changed(alloc: Global, state: State, change: Change) -> Result<State, AllocError>
+    requires some { 0 < length state.chunks }
+    requires kind { option_map kind_of (slice_get state.chunks 0) ≡ Some Points }
+    requires rung { option_map rung_of (slice_get state.chunks 0) ≡ Some Plain }
+{
+    let mut state = state;
+    match change {
+        Change::Put => state.put(alloc, 0, cell(alloc, 1, 7)?)?,
+        Change::Take => {
+            let _taken = state.take(0);
+        }
+        Change::DropChunks => state.drop_chunks(alloc)?,
+        Change::Set { slot } => state.set(alloc, slot, number(alloc, 4)?)?,
+        Change::SetEnv => state.set_env(Env::new(alloc)),
+    }
+    Ok(state)
+}
+
+#[test]
+fn changes_one_copy_of_a_state(rt: HostRuntime) -> Result<(), AllocError> {
+    let alloc = rt.alloc();
+    for (change, wanted) in [
+        (Change::Put, (1, Some(7), Some(0))),
+        (Change::Take, (0, None, Some(0))),
+        (Change::DropChunks, (0, None, Some(0))),
+        (Change::Set { slot: 0 }, (1, Some(5), Some(4))),
+        (Change::Set { slot: 1 }, (1, Some(5), Some(0))),
+        (Change::SetEnv, (1, Some(5), None)),
+    ] {
+        let before = small(alloc)?;
+        let state = before.fork(alloc)?;
+        let after = changed(alloc, state, change)?;
+        assert_eq!(rt; seen(&after), wanted);
+        assert_eq!(rt; seen(&before), (1, Some(5), Some(0)));
+    }
+    Ok(())
+}
+
+fn taken(alloc: Global) -> Result<Option<i128>, AllocError> {
+    let mut state = small(alloc)?;
+    Ok(share_of(state.take(0).get()))
+}
+
+#[test]
+fn gives_the_chunk_that_it_takes(rt: HostRuntime) -> Result<(), AllocError> {
+    let alloc = rt.alloc();
+    assert_eq!(rt; taken(alloc)?, Some(5));
     Ok(())
 }
