@@ -8,6 +8,7 @@ mod job;
 mod looping;
 mod paths;
 mod rest;
+mod room;
 mod sets;
 mod statements;
 #[cfg(test)]

@@ -14,6 +14,7 @@ use crate::contract::{close, enter, give_inv, return_with};
 use crate::job::Job;
 use crate::looping::{at_body, at_round, decide};
 use crate::rest::{Rest, Round};
+use crate::room::have_room;
 use crate::sets::past;
 use crate::statements::{is_simple, step};
 use fsl_asrt::{Branch, Decided};
@@ -29,7 +30,8 @@ const MAX_PATHS: u32 = 65536;
 const NOWHERE: Span = Span { from: 0, to: 0 };
 
 /// The outcome of a procedure, by its number: its first failure, else how many paths it has. The 65537th path that
-/// ends fails `Paths` unless it fails by itself.
+/// ends fails `Paths` unless it fails by itself. More than 512 `if`s and `while`s in a procedure are answered as want
+/// of memory, as each takes room on the stack.
 #[tactic(auto, using(crate::proofs::Building::proc_built))]
 pub fn outcome(alloc: Global, p: &Program, proc: u32) -> Result<Outcome, AllocError>
     requires built { IsTrue (is_built p.now) }
@@ -41,7 +43,11 @@ pub fn outcome(alloc: Global, p: &Program, proc: u32) -> Result<Outcome, AllocEr
         number: proc,
         proc: &p.procs()[proc as usize],
     };
-    judge(alloc, &job)
+    if have_room(job.proc.body.as_slice()) {
+        judge(alloc, &job)
+    } else {
+        Err(AllocError)
+    }
 }
 
 /// The outcome of a procedure.
