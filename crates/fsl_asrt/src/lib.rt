@@ -16,8 +16,6 @@ mod producing;
 mod sides;
 mod take;
 mod terms;
-#[cfg(test)]
-mod tests;
 mod walk;
 
 pub use asked::read;
