@@ -1,6 +1,5 @@
 //! Tests of what no clause says: values at the edges of the range, and that copies succeed where there
 //! is memory.
-mod well_formed;
 
 ghost use Rattle.std.specs.Prelude.{◌≡◌, [], ◌∷◌, IsTrue, IfOk};
 ghost use Rattle.fsl_core.specs.Values.{slots_below};

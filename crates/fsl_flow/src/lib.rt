@@ -11,8 +11,6 @@ mod rest;
 mod room;
 mod sets;
 mod statements;
-#[cfg(test)]
-mod tests;
 
 pub use covered::built;
 pub use paths::outcome;
