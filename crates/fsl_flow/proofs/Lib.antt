@@ -1,13 +1,14 @@
 pub mod Building
+pub mod Continuing
 pub mod Contracting
 pub mod Ending
 pub mod Following
-pub mod Leaving
 pub mod Owning
 pub mod Padding
-pub mod Scanning
 pub mod Setting
+pub mod Shrinking
 pub mod Slots
+pub mod Stacking
 pub mod Stepping
 pub mod Straight
 pub mod Walking

@@ -1,26 +1,21 @@
--- The ends of the paths behind a statement, and how much of the text is left to follow.
-use Rattle.std.specs.Prelude.{◌≤◌, ℕ, ◌+◌, Bool, true, ◌&&◌, List, [], ◌∷◌, ◌++◌, map}
+-- The ends of what waits to be followed, and how many steps it takes.
+use Rattle.std.specs.Prelude.{ℕ, zero, suc, ◌+◌, Bool, true, ◌&&◌, List, [], ◌∷◌, ◌++◌, map}
+use Rattle.std.specs.List.{list_all}
 use Rattle.fsl_base.specs.declared.span.Span.{Span}
 use Rattle.fsl_core.specs.declared.act.Act.{Act}
 use Rattle.fsl_core.specs.declared.act.Stmt.{Stmt}
 use Rattle.fsl_core.specs.declared.act.Act.TheOpen.{Act-F, Stmt-F}
 use Rattle.fsl_core.specs.declared.act.Act.TheFolds.{fold-Act, fold-Stmt}
-use Rattle.fsl_core.specs.declared.verdict.Outcome.{Outcome}
-use Rattle.fsl_core.specs.declared.verdict.Outcome.TheVariants.{Derived, Fails}
 use Rattle.fsl_core.specs.Verdicts.{End}
-use Rattle.fsl_core.specs.logic.States.{State, Branches}
 use Rattle.fsl_core.specs.logic.Terms.{expr_of}
 use Rattle.fsl_core.specs.logic.Deciding.{cond_of}
-use Rattle.fsl_core.specs.logic.Producing.{chosen}
 use Rattle.fsl_core.specs.logic.Assertions.{asrt_of}
 use Rattle.fsl_core.specs.logic.Paths.{Ends, Meaning, Reading, each, block, act_step, stmt_step, stmt_of, reading_by, closing, path_ends, give_inv, body_ends, behind_ends}
 use Rattle.fsl_asrt.specs.Built as assertions
 use Rattle.fsl_flow.specs.Built.{are_built}
 use Rattle.fsl_flow.specs.declared.job.Job.{Job}
-use Rattle.fsl_flow.specs.declared.rest.Rest.{Rest}
-use Rattle.fsl_flow.specs.declared.rest.Rest.TheOpen.{Rest-F}
-use Rattle.fsl_flow.specs.declared.rest.Rest.TheFolds.{fold-Rest}
-use Rattle.fsl_flow.specs.declared.rest.Round.{Round}
+use Rattle.fsl_flow.specs.Next.{next}
+use Rattle.fsl_flow.specs.Places.{Place, in_block, in_loop, Leaving, closes, gives_back, Left, Item, goes_on, over}
 
 -- how the statements of a procedure are read
 abbrev pub reading : Job → Reading
@@ -32,67 +27,49 @@ act_meaning r = fold-Act (Span → Meaning) Meaning (act_step r) stmt_step
 abbrev pub meanings : Reading → List Stmt → List Meaning
 meanings r stmts = map (stmt_of r) stmts
 
--- a round of a loop on a path of its own, and then what comes behind the loop
-abbrev pub loop_ends : Reading → Round → Ends → Ends
-loop_ends r x up s =
-    body_ends (cond_of r.expr x.cond.now) (r.asrt x.inv.now) (meanings r x.body.now) x.at x.declared s
-    ++ behind_ends (cond_of r.expr x.cond.now) (r.asrt x.inv.now) (meanings r x.body.now) x.at x.declared up s
+-- ---- ends
 
-abbrev pub rest_step : Reading → Rest-F Ends → Ends
-rest_step r (Rest-F.Over at) = path_ends at
-rest_step r (Rest-F.Closing at) = closing r.post at
-rest_step r (Rest-F.Back at inv) = λ s. each at (give_inv (r.asrt inv.now) s) (λ x. path_ends at)
-rest_step r (Rest-F.Then stmts declared up) = λ s. block (meanings r stmts.now) declared s up.now
-rest_step r (Rest-F.Loop round up) = loop_ends r round up.now
+-- of statements, or of a round of a loop on a path of its own and then of what comes behind it
+abbrev pub place_ends : Reading → Place → Ends → Ends
+place_ends r (in_block stmts declared) up s = block (meanings r stmts) declared s up
+place_ends r (in_loop at cond inv body declared) up s =
+    body_ends (cond_of r.expr cond) (r.asrt inv) (meanings r body) at declared s
+    ++ behind_ends (cond_of r.expr cond) (r.asrt inv) (meanings r body) at declared up s
 
--- the ends of the paths behind a statement
-abbrev pub rest_ends : Reading → Rest → Ends
-rest_ends r = fold-Rest Ends (rest_step r)
+abbrev pub leaving_ends : Reading → Leaving → Ends
+leaving_ends r (closes at) = closing r.post at
+leaving_ends r (gives_back at inv) = λ s. each at (give_inv (r.asrt inv) s) (λ x. path_ends at)
 
--- ---- the ends of paths, as the walk comes to them. These words stay closed outside of the laws on them.
+abbrev pub places_ends : Reading → List Place → Ends → Ends
+places_ends r [] up = up
+places_ends r (place ∷ places) up = place_ends r place (places_ends r places up)
 
--- behind a statement
-unfoldable pub ends_behind : Job → Rest → State → List End
-ends_behind job rest s = rest_ends (reading job) rest s
+abbrev pub left_ends : Reading → Left → Ends
+left_ends r left = places_ends r left.places (leaving_ends r left.leaving)
 
--- of statements, and of what is behind them
-unfoldable pub block_ends : Job → List Stmt → ℕ → State → Rest → List End
-block_ends job stmts declared s up = block (meanings (reading job) stmts) declared s (rest_ends (reading job) up)
+-- this word and the next ones stay closed outside of the laws on them
+unfoldable pub item_ends : Job → Item → List End
+item_ends job (goes_on s left) = left_ends (reading job) left s
+item_ends job (over end) = end ∷ []
 
--- of one statement
-unfoldable pub act_ends : Job → Act → Span → ℕ → State → Rest → List End
-act_ends job act at declared s rest = (act_meaning (reading job) act at).ends declared s (rest_ends (reading job) rest)
+-- ---- every statement and every invariant that is left is of a built program
 
--- of the branches of a rule
-unfoldable pub each_ends : Job → Span → Branches (Unit {0}) → Rest → List End
-each_ends job at bs rest = each at bs (λ _. rest_ends (reading job) rest)
+abbrev pub is_built_place : Place → Bool
+is_built_place (in_block stmts declared) = are_built stmts
+is_built_place (in_loop at cond inv body declared) = assertions.is_built inv && are_built body
 
--- of the branches of a decision, each with one of two blocks
-unfoldable pub sides_ends : Job → Span → Branches Bool → List Stmt → List Stmt → ℕ → Rest → List End
-sides_ends job at bs a b declared rest =
-    each at bs (λ holds t. block (chosen (meanings (reading job) a) (meanings (reading job) b) holds) declared t (rest_ends (reading job) rest))
+abbrev pub is_built_leaving : Leaving → Bool
+is_built_leaving (closes at) = true
+is_built_leaving (gives_back at inv) = assertions.is_built inv
 
--- of a loop to which its invariant was given
-unfoldable pub turn_ends : Job → Round → Rest → State → List End
-turn_ends job x up s = loop_ends (reading job) x (rest_ends (reading job) up) s
+abbrev pub is_built_left : Left → Bool
+is_built_left left = list_all is_built_place left.places && is_built_leaving left.leaving
 
--- every statement and every invariant behind is of a built program
-abbrev pub built_step : Rest-F Bool → Bool
-built_step (Rest-F.Over at) = true
-built_step (Rest-F.Closing at) = true
-built_step (Rest-F.Back at inv) = assertions.is_built inv.now
-built_step (Rest-F.Then stmts declared up) = are_built stmts.now && up.now
-built_step (Rest-F.Loop round up) = assertions.is_built round.inv.now && are_built round.body.now && up.now
+abbrev pub is_built_item : Item → Bool
+is_built_item (goes_on s left) = is_built_left left
+is_built_item (over end) = true
 
-unfoldable pub is_built_rest : Rest → Bool
-is_built_rest = fold-Rest Bool built_step
-
--- at most 65536 paths are derived
-abbrev pub IsWithin : Outcome → Type 0
-IsWithin (Derived paths) = paths ≤ 65536
-IsWithin (Fails proc at kind) = Unit {0}
-
--- ---- what is left to follow
+-- ---- how much of the text is left to follow
 
 abbrev pub total : List ℕ → ℕ
 total [] = 0
@@ -100,27 +77,37 @@ total (n ∷ ns) = n + total ns
 
 abbrev pub weight_step : Act-F ℕ ℕ → ℕ
 weight_step (Act-F.If cond a b) = total a + total b
-weight_step (Act-F.While cond inv body) = total body + 5
+weight_step (Act-F.While cond inv body) = total body + 1
 weight_step _ = 0
 
 abbrev pub stmt_weight_step : Stmt-F ℕ ℕ → ℕ
 stmt_weight_step stmt = stmt.act + 2
 
-unfoldable pub act_weight : Act → ℕ
+abbrev pub act_weight : Act → ℕ
 act_weight = fold-Act ℕ ℕ weight_step stmt_weight_step
 
 abbrev pub stmt_weight : Stmt → ℕ
 stmt_weight = fold-Stmt ℕ ℕ weight_step stmt_weight_step
 
-unfoldable pub weight : List Stmt → ℕ
+abbrev pub weight : List Stmt → ℕ
 weight stmts = total (map stmt_weight stmts)
 
-abbrev pub rest_weight_step : Rest-F ℕ → ℕ
-rest_weight_step (Rest-F.Over at) = 0
-rest_weight_step (Rest-F.Closing at) = 1
-rest_weight_step (Rest-F.Back at inv) = 1
-rest_weight_step (Rest-F.Then stmts declared up) = weight stmts.now + up.now + 1
-rest_weight_step (Rest-F.Loop round up) = weight round.body.now + up.now + 4
+abbrev pub place_weight : Place → ℕ
+place_weight (in_block stmts declared) = weight stmts + 1
+place_weight (in_loop at cond inv body declared) = weight body + 2
 
-unfoldable pub rest_weight : Rest → ℕ
-rest_weight = fold-Rest ℕ rest_weight_step
+abbrev pub left_weight : Left → ℕ
+left_weight left = total (map place_weight left.places) + 1
+
+abbrev pub item_weight : Item → ℕ
+item_weight (goes_on s left) = left_weight left
+item_weight (over end) = 0
+
+-- ---- how many steps it takes to follow what waits. What comes next has less text left, so that its weight is enough.
+
+unfoldable pub steps_by : ℕ → Job → Item → ℕ
+steps_by zero job item = 0
+steps_by (suc n) job item = suc (total (map (λ x. steps_by n job x) (next job item)))
+
+unfoldable pub steps : Job → Item → ℕ
+steps job item = steps_by (suc (item_weight item)) job item

@@ -6,9 +6,10 @@ mod contract;
 mod covered;
 mod job;
 mod looping;
+mod next;
 mod paths;
+mod pending;
 mod rest;
-mod room;
 mod sets;
 mod statements;
 

@@ -1,0 +1,164 @@
+//! One step of a path: what comes next, the first first.
+ghost use Rattle.std.specs.Prelude.{◌≡◌, map, IfOk, IsTrue};
+ghost use Rattle.fsl_asrt.specs.Built as assertions;
+ghost use Rattle.fsl_flow.specs.Built.{is_built_act, are_built};
+ghost use Rattle.fsl_flow.specs.Places.{leaving_of, left_of, item_of, goes_on};
+ghost use Rattle.fsl_flow.specs.Next.{next, next_exit, next_turn, next_block, next_stmt};
+ghost use Rattle.fsl_flow.specs.Rests.{is_built_leaving, is_built_left};
+
+use crate::contract::{close, give_inv, return_with};
+use crate::job::Job;
+use crate::looping::{at_body, at_round, decide};
+use crate::pending::{Pending, each, each_end, each_side, one};
+use crate::rest::{Exit, Level, Rest, Round};
+use crate::sets::past;
+use crate::statements::{is_simple, step};
+use fsl_base::List;
+use fsl_chunk::State;
+use fsl_core::{Act, Stmt};
+use std::alloc::{AllocError, Global};
+
+/// What comes next on a path.
+pub fn next<'a>(
+    alloc: Global,
+    job: &Job<'_>,
+    state: State,
+    rest: Rest<'a>,
+) -> Result<List<Pending<'a>>, AllocError>
+    requires post { IsTrue (assertions.is_built job.now.proc.now.post) }
+    requires rest { IsTrue (is_built_left (left_of rest.entry)) }
+    ensures { IfOk result (λ ps. map item_of ps ≡ next job.now (goes_on state (left_of rest.entry))) }
+{
+    let Rest { mut levels, exit } = rest;
+    match levels.pop() {
+        Some(Level::Block { stmts, declared }) => {
+            block(alloc, job, state, stmts, declared, Rest { levels, exit })
+        }
+        Some(Level::Loop { round }) => turn(alloc, state, &round, &Rest { levels, exit }),
+        None => leave(alloc, job, state, &exit),
+    }
+}
+
+/// What comes next behind the last level.
+fn leave<'a>(
+    alloc: Global,
+    job: &Job<'_>,
+    state: State,
+    exit: &Exit<'_>,
+) -> Result<List<Pending<'a>>, AllocError>
+    requires post { IsTrue (assertions.is_built job.now.proc.now.post) }
+    requires exit { IsTrue (is_built_leaving (leaving_of exit.now)) }
+    ensures { IfOk result (λ ps. map item_of ps ≡ next_exit job.now state (leaving_of exit.now)) }
+{
+    match exit {
+        Exit::Closing { at } => {
+            let finished = close(alloc, state, &job.proc.post)?;
+            each_end(alloc, *at, finished)
+        }
+        Exit::Back { at, inv } => {
+            let given = give_inv(alloc, state, inv)?;
+            each_end(alloc, *at, given)
+        }
+    }
+}
+
+/// What comes next of a loop: a round on paths of their own, and then what is behind the loop.
+fn turn<'a>(
+    alloc: Global,
+    state: State,
+    x: &Round<'a>,
+    up: &Rest<'a>,
+) -> Result<List<Pending<'a>>, AllocError>
+    requires { IsTrue (assertions.is_built x.now.inv.now) }
+    ensures { IfOk result (λ ps. map item_of ps ≡ next_turn x.now.at x.now.cond.now x.now.inv.now x.now.body.now x.now.declared state (left_of up.now)) }
+{
+    let inside = at_body(alloc, &state, x)?;
+    let back = Exit::Back {
+        at: x.at,
+        inv: x.inv,
+    };
+    let body = Rest::body(alloc, x.body, x.declared, back)?;
+    let mut out = each(alloc, x.at, inside, &body)?;
+    let behind = at_round(alloc, state, x, false)?;
+    out.append(each(alloc, x.at, behind, up)?)?;
+    Ok(out)
+}
+
+/// What comes next of statements.
+fn block<'a>(
+    alloc: Global,
+    job: &Job<'_>,
+    state: State,
+    stmts: &'a [Stmt],
+    declared: u64,
+    up: Rest<'a>,
+) -> Result<List<Pending<'a>>, AllocError>
+    requires post { IsTrue (assertions.is_built job.now.proc.now.post) }
+    requires stmts { IsTrue (are_built stmts.now) }
+    ensures { IfOk result (λ ps. map item_of ps ≡ next_block job.now state stmts.now declared (left_of up.entry)) }
+{
+    match stmts.split_first() {
+        Some((stmt, others)) => {
+            let rest = up.with(Level::Block {
+                stmts: others,
+                declared: past(declared, &stmt.act),
+            })?;
+            statement(alloc, job, state, stmt, declared, rest)
+        }
+        None => {
+            let mut out = List::new(alloc);
+            out.push(Pending::Goes { state, rest: up })?;
+            Ok(out)
+        }
+    }
+}
+
+/// What comes next of a statement.
+fn statement<'a>(
+    alloc: Global,
+    job: &Job<'_>,
+    state: State,
+    stmt: &'a Stmt,
+    declared: u64,
+    rest: Rest<'a>,
+) -> Result<List<Pending<'a>>, AllocError>
+    requires post { IsTrue (assertions.is_built job.now.proc.now.post) }
+    requires built { IsTrue (is_built_act stmt.now.act) }
+    ensures { IfOk result (λ ps. map item_of ps ≡ next_stmt job.now stmt.now declared state (left_of rest.entry)) }
+{
+    if is_simple(&stmt.act) {
+        let went = step(alloc, state, &stmt.act)?;
+        return one(alloc, stmt.span, went, rest);
+    }
+    match &stmt.act {
+        Act::If { cond, yes, no } => {
+            let sides = decide(alloc, state, cond)?;
+            each_side(
+                alloc,
+                stmt.span,
+                sides,
+                yes.as_slice(),
+                no.as_slice(),
+                declared,
+                &rest,
+            )
+        }
+        Act::While { cond, inv, body } => {
+            let given = give_inv(alloc, state, inv)?;
+            let round = Round {
+                at: stmt.span,
+                cond,
+                inv,
+                body: body.as_slice(),
+                declared,
+            };
+            let rest = rest.with(Level::Loop { round })?;
+            each(alloc, stmt.span, given, &rest)
+        }
+        Act::Return { e } => {
+            let finished = return_with(alloc, state, &job.proc.post, e)?;
+            each_end(alloc, stmt.span, finished)
+        }
+        _ => unreachable!(),
+    }
+}

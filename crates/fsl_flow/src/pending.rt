@@ -1,0 +1,118 @@
+//! What waits to be followed: the branches of rules, each with what is left of its path.
+ghost use Rattle.std.specs.Prelude.{◌≡◌, map, IfOk};
+ghost use Rattle.fsl_chunk.specs.Branches as chunks;
+ghost use Rattle.fsl_asrt.specs.Branches.{branches, decided};
+ghost use Rattle.fsl_flow.specs.Places.{left_of, item_of};
+ghost use Rattle.fsl_flow.specs.Next.{goes_to, goes_to_side, ends_at};
+
+use crate::rest::{Level, Rest};
+use fsl_asrt::{Branch, Decided};
+use fsl_base::{List, Span};
+use fsl_chunk::{State, Went};
+use fsl_core::{Kind, Stmt};
+use std::alloc::{AllocError, Global};
+
+/// What waits to be followed.
+#[derive(Drop)]
+pub enum Pending<'a> {
+    /// A state, and what is left of its path.
+    Goes {
+        state: State,
+        rest: Rest<'a>,
+    },
+    /// A path that ends at this place.
+    Ends {
+        at: Span,
+    },
+    /// A path that fails at this place.
+    Fails {
+        at: Span,
+        kind: Kind,
+    },
+}
+
+/// What a rule with at most one branch goes on with.
+pub fn one<'a>(
+    alloc: Global,
+    at: Span,
+    went: Went,
+    rest: Rest<'a>,
+) -> Result<List<Pending<'a>>, AllocError>
+    ensures { IfOk result (λ ps. map item_of ps ≡ goes_to at (chunks.branches went) (left_of rest.entry)) }
+{
+    let mut out = List::new(alloc);
+    match went {
+        Went::Goes { state } => out.push(Pending::Goes { state, rest })?,
+        Went::Gone => {}
+        Went::Fails { kind } => out.push(Pending::Fails { at, kind })?,
+    }
+    Ok(out)
+}
+
+/// What the branches of a rule go on with.
+pub fn each<'a>(
+    alloc: Global,
+    at: Span,
+    going: List<Branch>,
+    rest: &Rest<'a>,
+) -> Result<List<Pending<'a>>, AllocError>
+    ensures { IfOk result (λ ps. map item_of ps ≡ goes_to at (branches going) (left_of rest.now)) }
+{
+    let mut out = List::new(alloc);
+    for branch in going.into_vec() {
+        match branch {
+            Branch::Goes { state } => {
+                let rest = rest.copy(alloc)?;
+                out.push(Pending::Goes { state, rest })?;
+            }
+            Branch::Fails { kind } => out.push(Pending::Fails { at, kind })?,
+        }
+    }
+    Ok(out)
+}
+
+/// What the branches of a decision go on with: each goes into one of two blocks.
+pub fn each_side<'a>(
+    alloc: Global,
+    at: Span,
+    sides: List<Decided>,
+    yes: &'a [Stmt],
+    no: &'a [Stmt],
+    declared: u64,
+    rest: &Rest<'a>,
+) -> Result<List<Pending<'a>>, AllocError>
+    ensures { IfOk result (λ ps. map item_of ps ≡ goes_to_side at (decided sides) yes.now no.now declared (left_of rest.now)) }
+{
+    let mut out = List::new(alloc);
+    for side in sides.into_vec() {
+        match side {
+            Decided::Goes { state, holds } => {
+                let stmts = if holds { yes } else { no };
+                let rest = rest
+                    .copy(alloc)?
+                    .with(Level::Block { stmts, declared })?;
+                out.push(Pending::Goes { state, rest })?;
+            }
+            Decided::Fails { kind } => out.push(Pending::Fails { at, kind })?,
+        }
+    }
+    Ok(out)
+}
+
+/// The ends of the branches of a rule.
+pub fn each_end<'a>(
+    alloc: Global,
+    at: Span,
+    going: List<Branch>,
+) -> Result<List<Pending<'a>>, AllocError>
+    ensures { IfOk result (λ ps. map item_of ps ≡ ends_at at (branches going)) }
+{
+    let mut out = List::new(alloc);
+    for branch in going.into_vec() {
+        match branch {
+            Branch::Goes { state: _over } => out.push(Pending::Ends { at })?,
+            Branch::Fails { kind } => out.push(Pending::Fails { at, kind })?,
+        }
+    }
+    Ok(out)
+}
