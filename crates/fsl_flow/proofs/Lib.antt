@@ -11,4 +11,5 @@ pub mod Slots
 pub mod Stacking
 pub mod Stepping
 pub mod Straight
+pub mod Taking
 pub mod Walking

@@ -23,7 +23,7 @@ use Rattle.fsl_core.specs.logic.Paths.{return, give_inv, round}
 use Rattle.fsl_asrt.specs.Built as assertions
 use Rattle.fsl_flow.specs.declared.job.Job.{Job}
 use Rattle.fsl_flow.specs.Built.{built_step, is_built_act, is_built_stmt, are_built}
-use Rattle.fsl_flow.specs.Next.{items, next_act, next_block, next_turn, next_exit, next_from, next}
+use Rattle.fsl_flow.specs.Next.{items, goes_to, next_act, next_block, next_turn, next_exit, next_from, next}
 use Rattle.fsl_flow.specs.Places.{Place, in_block, in_loop, Leaving, closes, gives_back, Left, Item, goes_on, over, within}
 use Rattle.fsl_flow.specs.Rests.{is_built_place, is_built_leaving, is_built_left, is_built_item, total, weight_step, stmt_weight_step, act_weight, stmt_weight, weight, place_weight, left_weight, item_weight, steps_by, steps}
 use Rattle.fsl_flow.specs.Rounds.{decided_here, body_round}
@@ -53,6 +53,11 @@ both_follow most (x ∷ xs) ys h k = (h.0, both_follow most xs ys h.1 k)
 pub follow_built : (most : ℕ) (xs : List Item) → AllFollow most xs → list_all is_built_item xs ≡ true
 follow_built most [] h = refl
 follow_built most (x ∷ xs) h = rw (h.0.built) (follow_built most xs h.1)
+
+pub going_built : (at : Span) (bs : Branches (Unit {0})) (left : Left) → is_built_left left ≡ true → list_all is_built_item (goes_to at bs left) ≡ true
+going_built at bs left h =
+    follow_built (left_weight left + 1) (goes_to at bs left)
+    (items_follow (left_weight left + 1) at bs (λ x s. goes_on s left) (omega arith) (λ x s. record { lighter = omega arith; built = h }))
 
 pub both : (a b : Bool) → a ≡ true → b ≡ true → (a && b) ≡ true
 both a b h k = rw (h, k) refl

@@ -1,11 +1,12 @@
 -- What the walk comes to, one step at a time.
-use Rattle.std.proofs.Common.{arith, ◌≡◌, ℕ, suc, ◌+◌, ◌<◌, ◌≤◌, Bool, true, false, ◌&&◌, List, [], ◌∷◌, ◌++◌, map, nat_lt, if◌then◌else◌, refl, sym, ap, ◌∙◌, append_assoc}
+use Rattle.std.proofs.Common.{arith, ◌≡◌, ℕ, suc, ◌+◌, ◌<◌, ◌≤◌, Bool, true, false, ◌&&◌, List, [], ◌∷◌, ◌++◌, map, nat_lt, if◌then◌else◌, refl, sym, ap, ◌∙◌, append_assoc, append-nil}
 use Rattle.std.specs.List.{flat_map, list_all}
 use Rattle.std.proofs.lemmas.Bool.{and_parts}
 use Rattle.std.proofs.lemmas.Grind.{flat_map-append}
 use Rattle.std.proofs.lemmas.List.{map-append}
 use Rattle.std.proofs.lemmas.List.Folds.{list_all-append}
 use Rattle.fsl_base.specs.declared.span.Span.{Span}
+use Rattle.fsl_core.specs.declared.act.Stmt.{Stmt}
 use Rattle.fsl_core.specs.declared.verdict.Kind.{Kind}
 use Rattle.fsl_core.specs.declared.verdict.Kind.TheVariants.{Paths}
 use Rattle.fsl_core.specs.declared.verdict.Outcome.{Outcome}
@@ -18,12 +19,14 @@ use Rattle.fsl_core.specs.logic.Locations.{contract_of}
 use Rattle.fsl_core.specs.logic.Paths.{each, nowhere, start, ends_of}
 use Rattle.fsl_flow.specs.declared.job.Job.{Job}
 use Rattle.fsl_flow.specs.declared.pending.Pending.{Pending}
+use Rattle.fsl_flow.specs.Built.{are_built, is_built_proc}
 use Rattle.fsl_flow.specs.Next.{goes_to, next}
 use Rattle.fsl_flow.specs.Places.{in_block, closes, Left, Item, goes_on, over, item_of, stack}
 use Rattle.fsl_flow.specs.Rests.{reading, left_ends, item_ends, is_built_left, is_built_item, total, item_weight, steps}
+use Rattle.fsl_flow.proofs.Building.{body_built}
 use Rattle.fsl_flow.proofs.Continuing.{going_ends, next_ends}
-use Rattle.fsl_flow.proofs.Shrinking.{both, follow_built, next_follows, steps_next}
-use Rattle.fsl_flow.proofs.Stacking.{last_first}
+use Rattle.fsl_flow.proofs.Shrinking.{both, follow_built, going_built, next_follows, steps_next}
+use Rattle.fsl_flow.proofs.Stacking.{none_first, last_first}
 
 -- ---- the stack
 
@@ -37,11 +40,25 @@ laid more rest last before after whole e f h =
     ∙ ap (λ (xs : List Item). xs ++ stack before) (sym (map-append item_of rest (last ∷ [])))
     ∙ ap (λ (ps : List Pending). map item_of ps ++ stack before) (sym e) ∙ h
 
+-- the first lay on an empty one
+pub laid_first : (first : List Item) (empty after : List Pending) → stack after ≡ first ++ stack empty → empty ≡ [] → stack after ≡ first
+laid_first first empty after e f =
+    e ∙ ap (λ (ps : List Pending). first ++ stack ps) f ∙ ap (λ (xs : List Item). first ++ xs) (none_first item_of) ∙ append-nil first
+
+-- its top is taken off
+pub popped : (before after : List Pending) (top : Pending) (item : Item) → before ≡ after ++ top ∷ [] → item_of top ≡ item
+    → stack before ≡ item ∷ stack after
+popped before after top item e f = ap stack e ∙ last_first item_of after top ∙ ap (λ (x : Item). x ∷ stack after) f
+
 total_append : (f : Item → ℕ) (xs ys : List Item) → total (map f (xs ++ ys)) ≡ total (map f xs) + total (map f ys)
 total_append f [] ys = omega arith
 total_append f (x ∷ xs) ys = let more = total_append f xs ys in omega arith
 
 -- ---- a state goes on: what comes next is laid in its place
+
+pub top_built : (s : State) (left : Left) (below before : List Item) → before ≡ goes_on s left ∷ below → list_all is_built_item before ≡ true
+    → is_built_left left ≡ true
+top_built s left below before e h = (and_parts (is_built_left left) (list_all is_built_item below) (ap (list_all is_built_item) (sym e) ∙ h)).0
 
 pub next_built : (job : Job) (s : State) (left : Left) (below before after : List Item) → before ≡ goes_on s left ∷ below
     → after ≡ next job (goes_on s left) ++ below → list_all is_built_item before ≡ true → list_all is_built_item after ≡ true
@@ -109,14 +126,33 @@ pub over_fails : (job : Job) (at : Span) (kind : Kind) (below before : List Item
 over_fails job at kind below before c whole e h =
     sym (ap (outcome_from job.number c) (over_ends job (failed at kind) below before e)) ∙ h
 
+pub all_over : (job : Job) (pending : List Pending) (c : ℕ) (whole : Outcome) → pending ≡ []
+    → outcome_from job.number c (flat_map (item_ends job) (stack pending)) ≡ whole → Derived c ≡ whole
+all_over job pending c whole e h =
+    sym (ap (λ (ps : List Pending). outcome_from job.number c (flat_map (item_ends job) (stack ps))) e
+    ∙ ap (λ (xs : List Item). outcome_from job.number c (flat_map (item_ends job) xs)) (none_first item_of)) ∙ h
+
 -- ---- a whole procedure
 
 -- its body, and its closing brace
 abbrev pub whole_body : Job → Left
 whole_body job = record { places = in_block job.proc.now.body 0 ∷ []; leaving = closes job.proc.now.last }
 
+pub first_is : (job : Job) (first : List Item) (bs : Branches (Unit {0})) (left : Left) (stmts : List Stmt) → first ≡ goes_to nowhere bs left
+    → left ≡ record { places = in_block stmts 0 ∷ []; leaving = closes job.proc.now.last } → stmts ≡ job.proc.now.body
+    → first ≡ goes_to nowhere bs (whole_body job)
+first_is job first bs left stmts e f g =
+    e ∙ ap (λ (l : Left). goes_to nowhere bs l) f
+    ∙ ap (λ (ss : List Stmt). goes_to nowhere bs (record { places = in_block ss 0 ∷ []; leaving = closes job.proc.now.last })) g
+
 pub judged : (job : Job) (first : List Item) (bs : Branches (Unit {0})) → first ≡ goes_to nowhere bs (whole_body job)
     → bs ≡ enter (contract_of asrt_of job.proc.now) start → flat_map (item_ends job) first ≡ ends_of job.program.now job.proc.now
 judged job first bs e h =
     ap (flat_map (item_ends job)) e ∙ going_ends job nowhere bs (whole_body job)
     ∙ ap (λ (cs : Branches (Unit {0})). each nowhere cs (λ x. left_ends (reading job) (whole_body job))) h
+
+pub judged_built : (job : Job) (first : List Item) (bs : Branches (Unit {0})) → first ≡ goes_to nowhere bs (whole_body job)
+    → is_built_proc job.proc.now ≡ true → list_all is_built_item first ≡ true
+judged_built job first bs e h =
+    let body : is_built_left (whole_body job) ≡ true = both (are_built job.proc.now.body && true) true (both (are_built job.proc.now.body) true (body_built job.proc.now h) refl) refl in
+    ap (list_all is_built_item) e ∙ going_built nowhere bs (whole_body job) body

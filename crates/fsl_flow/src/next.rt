@@ -19,6 +19,7 @@ use fsl_core::{Act, Stmt};
 use std::alloc::{AllocError, Global};
 
 /// What comes next on a path.
+#[tactic(auto, using(crate::proofs::Stacking::none_first))]
 pub fn next<'a>(
     alloc: Global,
     job: &Job<'_>,
@@ -26,7 +27,7 @@ pub fn next<'a>(
     rest: Rest<'a>,
 ) -> Result<List<Pending<'a>>, AllocError>
     requires post { IsTrue (assertions.is_built job.now.proc.now.post) }
-    requires rest { IsTrue (is_built_left (left_of rest.entry)) }
+    requires rest { IsTrue (is_built_left (left_of rest)) }
     ensures { IfOk result (λ ps. map item_of ps ≡ next job.now (goes_on state (left_of rest.entry))) }
 {
     let Rest { mut levels, exit } = rest;

@@ -60,7 +60,7 @@ fn walk(
     first: List<Pending<'_>>,
 ) -> Result<Outcome, AllocError>
     requires post { IsTrue (assertions.is_built job.now.proc.now.post) }
-    requires built { IsTrue (list_all is_built_item (map item_of first.entry)) }
+    requires built { IsTrue (list_all is_built_item (map item_of first)) }
     ensures { IfOk result (λ o. o ≡ outcome_from job.now.number 0 (flat_map (item_ends job.now) (map item_of first.entry))) }
 {
     let mut pending = List::new(alloc);

@@ -99,6 +99,20 @@ fn one_end_of_a_body_too_many(rt: HostRuntime) -> Result<(), AllocError> {
     walked(&rt, alloc, NUMBERS, piece, 16, back, said)
 }
 
+// What waits to be followed takes no room on the stack.
+#[test]
+fn branches_and_loops_in_a_row(rt: HostRuntime) -> Result<(), AllocError> {
+    let alloc = rt.alloc();
+    let front = "proc main() {\n";
+    for (before, after) in [("if (0 > ", ") { }\n"), ("while (0 > ", ") { }\n")] {
+        let piece = (before, after);
+        walked(&rt, alloc, front, piece, 3000, "}", "accepted 1\n")?;
+        let said = "failed main 3002:1 assert\n";
+        walked(&rt, alloc, front, piece, 3000, "assert (0 == 1);\n}", said)?;
+    }
+    Ok(())
+}
+
 // Each `alloc` makes a symbol, and so does what comes behind a loop for the variable that its body sets.
 #[test]
 fn the_most_symbols_of_a_path(rt: HostRuntime) -> Result<(), AllocError> {
