@@ -21,12 +21,12 @@ use Rattle.fsl_core.specs.logic.Producing.{chosen}
 use Rattle.fsl_core.specs.logic.Assertions.{asrt_of}
 use Rattle.fsl_core.specs.logic.Calls.{finish}
 use Rattle.fsl_core.specs.logic.Slots.{past}
-use Rattle.fsl_core.specs.logic.Paths.{Ends, Meaning, each, block, act_step, stmt_step, stmt_of, return, give_inv, round, path_ends, body_ends, behind_ends}
+use Rattle.fsl_core.specs.logic.Paths.{Ends, Meaning, each, block, act_step, stmt_step, stmt_of, return, give_inv, round, path_ends}
 use Rattle.fsl_flow.specs.declared.job.Job.{Job}
 use Rattle.fsl_flow.specs.Built.{built_step, is_built_act, is_built_stmt, are_built}
 use Rattle.fsl_flow.specs.Next.{items, goes_to, ends_at, next_act, next_stmt, next_block, next_turn, next_from, next}
 use Rattle.fsl_flow.specs.Places.{Place, in_block, in_loop, Leaving, closes, gives_back, Left, Item, goes_on, over, within}
-use Rattle.fsl_flow.specs.Rests.{reading, act_meaning, meanings, place_ends, left_ends, item_ends, is_built_place, is_built_leaving, is_built_left, is_built_item}
+use Rattle.fsl_flow.specs.Rests.{reading, act_meaning, meanings, place_ends, left_ends, item_ends, is_built_place, is_built_leaving, is_built_left}
 use Rattle.fsl_flow.specs.Rounds.{decided_here, body_round}
 use Rattle.fsl_flow.specs.Sets.{act_sets, stmts_set}
 use Rattle.fsl_flow.specs.Simple.{action_step, action_of}

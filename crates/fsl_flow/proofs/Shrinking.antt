@@ -90,9 +90,9 @@ act_follows job stmt declared s left f h (Act-F.If cond a b) is k =
 act_follows job stmt declared s left f h (Act-F.While cond inv body) is k =
     items_follow (left_weight left + (weight body + 1) + 2) stmt.span (give_inv (asrt_of inv) s)
     (λ x t. goes_on t (within (in_loop stmt.span cond inv body declared) left)) (omega arith) (λ x t. record {
-  lighter = omega arith;
-  built = inside_built (assertions.is_built inv && are_built body) (list_all is_built_place left.places) (is_built_leaving left.leaving) is k;
-})
+      lighter = omega arith;
+      built = inside_built (assertions.is_built inv && are_built body) (list_all is_built_place left.places) (is_built_leaving left.leaving) is k;
+    })
 act_follows job stmt declared s left f h (Act-F.Return e) is k =
     items_follow (left_weight left + 0 + 2) stmt.span (return (asrt_of job.proc.now.post) (expr_of e) s) (λ x t. over (derived stmt.span)) (omega arith)
     (λ x t. record { lighter = omega arith; built = refl })

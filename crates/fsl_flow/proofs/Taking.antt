@@ -1,14 +1,12 @@
 -- The innermost level of what is left of a path, as it is taken off.
-use Rattle.std.proofs.Common.{◌≡◌, Bool, true, ◌&&◌, List, [], ◌∷◌, ◌++◌, sym, ap, ◌∙◌}
+use Rattle.std.proofs.Common.{◌≡◌, true, ◌&&◌, List, [], ◌∷◌, ◌++◌, sym, ap, ◌∙◌}
 use Rattle.std.specs.List.{list_all}
-use Rattle.std.specs.Borrow.{Bor}
 use Rattle.std.proofs.lemmas.Bool.{and_parts}
 use Rattle.fsl_core.specs.logic.States.{State}
 use Rattle.fsl_flow.specs.declared.job.Job.{Job}
-use Rattle.fsl_flow.specs.declared.rest.Exit.{Exit}
 use Rattle.fsl_flow.specs.declared.rest.Level.{Level}
 use Rattle.fsl_flow.specs.Next.{next_from}
-use Rattle.fsl_flow.specs.Places.{Place, place_of, Leaving, leaving_of, from_last}
+use Rattle.fsl_flow.specs.Places.{Place, place_of, Leaving, from_last}
 use Rattle.fsl_flow.specs.Rests.{is_built_place, is_built_leaving}
 use Rattle.fsl_flow.proofs.Stacking.{last_first}
 

@@ -54,11 +54,7 @@ fn judge(alloc: Global, job: &Job<'_>) -> Result<Outcome, AllocError>
 }
 
 /// Follows what waits, one after the other.
-fn walk(
-    alloc: Global,
-    job: &Job<'_>,
-    first: List<Pending<'_>>,
-) -> Result<Outcome, AllocError>
+fn walk(alloc: Global, job: &Job<'_>, first: List<Pending<'_>>) -> Result<Outcome, AllocError>
     requires post { IsTrue (assertions.is_built job.now.proc.now.post) }
     requires built { IsTrue (list_all is_built_item (map item_of first)) }
     ensures { IfOk result (λ o. o ≡ outcome_from job.now.number 0 (flat_map (item_ends job.now) (map item_of first.entry))) }

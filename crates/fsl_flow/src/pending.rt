@@ -16,19 +16,11 @@ use std::alloc::{AllocError, Global};
 #[derive(Drop)]
 pub enum Pending<'a> {
     /// A state, and what is left of its path.
-    Goes {
-        state: State,
-        rest: Rest<'a>,
-    },
+    Goes { state: State, rest: Rest<'a> },
     /// A path that ends at this place.
-    Ends {
-        at: Span,
-    },
+    Ends { at: Span },
     /// A path that fails at this place.
-    Fails {
-        at: Span,
-        kind: Kind,
-    },
+    Fails { at: Span, kind: Kind },
 }
 
 /// What a rule with at most one branch goes on with.
@@ -88,9 +80,7 @@ pub fn each_side<'a>(
         match side {
             Decided::Goes { state, holds } => {
                 let stmts = if holds { yes } else { no };
-                let rest = rest
-                    .copy(alloc)?
-                    .with(Level::Block { stmts, declared })?;
+                let rest = rest.copy(alloc)?.with(Level::Block { stmts, declared })?;
                 out.push(Pending::Goes { state, rest })?;
             }
             Decided::Fails { kind } => out.push(Pending::Fails { at, kind })?,

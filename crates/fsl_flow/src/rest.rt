@@ -20,28 +20,18 @@ pub struct Round<'a> {
 #[derive(Clone, Copy)]
 pub enum Level<'a> {
     /// Statements, behind so many declared slots.
-    Block {
-        stmts: &'a [Stmt],
-        declared: u64,
-    },
+    Block { stmts: &'a [Stmt], declared: u64 },
     /// A loop to which the invariant was given.
-    Loop {
-        round: Round<'a>,
-    },
+    Loop { round: Round<'a> },
 }
 
 /// Where a path ends that comes through all its levels.
 #[derive(Clone, Copy)]
 pub enum Exit<'a> {
     /// The closing brace of the procedure.
-    Closing {
-        at: Span,
-    },
+    Closing { at: Span },
     /// The end of a loop's body, where the invariant is given back.
-    Back {
-        at: Span,
-        inv: &'a Asrt,
-    },
+    Back { at: Span, inv: &'a Asrt },
 }
 
 /// What is left of a path, from the outermost level to the innermost.

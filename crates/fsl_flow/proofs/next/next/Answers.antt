@@ -1,4 +1,4 @@
-use Rattle.std.proofs.Common.{◌≡◌, List, ◌∷◌, map, IfOk, sym, ap, subst}
+use Rattle.std.proofs.Common.{◌≡◌, List, map, IfOk, sym, ap, subst}
 use Rattle.std.proofs.lemmas.Bool.{and_parts}
 use Rattle.fsl_asrt.specs.Built as assertions
 use Rattle.fsl_flow.specs.Built.{are_built}

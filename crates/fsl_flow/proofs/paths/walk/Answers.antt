@@ -1,4 +1,4 @@
-use Rattle.std.proofs.Common.{arith, ◌≡◌, ◌<◌, List, [], ◌∷◌, ◌++◌, ap, ◌∙◌}
+use Rattle.std.proofs.Common.{arith, ◌≡◌, ◌<◌, List, [], ◌++◌, ap, ◌∙◌}
 use Rattle.std.specs.List.{flat_map, list_all}
 use Rattle.std.proofs.lemmas.Grind.{common_steps}
 use Rattle.fsl_core.specs.Verdicts.{derived, failed, outcome_from}
@@ -11,10 +11,10 @@ pub loop-top-init : goal.loop-top-init
 loop-top-init c =
     let is : stack c.lay.new.pending ≡ _ = laid_first _ _ c.lay.new.pending c.in_ok-lay.ensures c.new-pending.ensures in
     record {
-  few = omega arith;
-  built = ap (list_all is_built_item) is ∙ c.requires.built;
-  so_far = ap (λ (xs : List Item). outcome_from c.args.job.now.number 0 (flat_map (item_ends c.args.job.now) xs)) is;
-}
+      few = omega arith;
+      built = ap (list_all is_built_item) is ∙ c.requires.built;
+      so_far = ap (λ (xs : List Item). outcome_from c.args.job.now.number 0 (flat_map (item_ends c.args.job.now) xs)) is;
+    }
 
 pub next-requires-clause-rest : goal.next-requires-clause-rest
 next-requires-clause-rest c =
@@ -33,13 +33,13 @@ loop-top-preserved-in-Continue-branch-3 c =
     let top = popped c.loop-top.pending c.pop.new.self c.in-Some.top (goes_on c.in-Goes.state (left_of c.in-Goes.rest)) c.in-Some.ensures (ap item_of c.in-Goes.is) in
     let more : stack c.lay-in-Goes.new.pending ≡ _ = c.in_ok-lay-in-Goes.ensures ∙ ap (λ (xs : List Item). xs ++ stack c.pop.new.self) c.in_ok-more-in-Goes.ensures in
     record {
-  few = c.loop-top.invariant.few;
-  built = next_built c.args.job.now c.in-Goes.state (left_of c.in-Goes.rest) (stack c.pop.new.self) (stack c.loop-top.pending) (stack c.lay-in-Goes.new.pending)
-      top more c.loop-top.invariant.built;
-  so_far = ap (outcome_from c.args.job.now.number c.loop-top.count)
-      (next_same c.args.job.now c.in-Goes.state (left_of c.in-Goes.rest) (stack c.pop.new.self) (stack c.loop-top.pending) (stack c.lay-in-Goes.new.pending)
-      top more c.loop-top.invariant.built) ∙ c.loop-top.invariant.so_far;
-}
+      few = c.loop-top.invariant.few;
+      built = next_built c.args.job.now c.in-Goes.state (left_of c.in-Goes.rest) (stack c.pop.new.self) (stack c.loop-top.pending) (stack c.lay-in-Goes.new.pending)
+          top more c.loop-top.invariant.built;
+      so_far = ap (outcome_from c.args.job.now.number c.loop-top.count)
+          (next_same c.args.job.now c.in-Goes.state (left_of c.in-Goes.rest) (stack c.pop.new.self) (stack c.loop-top.pending) (stack c.lay-in-Goes.new.pending)
+          top more c.loop-top.invariant.built) ∙ c.loop-top.invariant.so_far;
+    }
 
 pub returns-then-count-eq-MAX_PATHS : goal.returns-then-count-eq-MAX_PATHS
 returns-then-count-eq-MAX_PATHS c =
@@ -57,10 +57,10 @@ loop-top-preserved c =
     let top = popped c.loop-top.pending c.pop.new.self c.in-Some.top (over (derived c.in-Ends.at)) c.in-Some.ensures (ap item_of c.in-Ends.is) in
     let few : c.loop-top.count < 65536 = omega arith in
     record {
-  few = omega arith;
-  built = over_built (derived c.in-Ends.at) (stack c.pop.new.self) (stack c.loop-top.pending) top c.loop-top.invariant.built;
-  so_far = over_counts c.args.job.now c.in-Ends.at (stack c.pop.new.self) (stack c.loop-top.pending) c.loop-top.count _ top few c.loop-top.invariant.so_far;
-}
+      few = omega arith;
+      built = over_built (derived c.in-Ends.at) (stack c.pop.new.self) (stack c.loop-top.pending) top c.loop-top.invariant.built;
+      so_far = over_counts c.args.job.now c.in-Ends.at (stack c.pop.new.self) (stack c.loop-top.pending) c.loop-top.count _ top few c.loop-top.invariant.so_far;
+    }
 
 pub returns-in-Fails : goal.returns-in-Fails
 returns-in-Fails c =
