@@ -8,7 +8,7 @@ use std::mem;
 #[derive(Clone, Copy, Debug, PartialEq, Eq)]
 pub enum Change {
     Kept,
-    /// It is called `main`.
+    /// It is called `main`, and no other stands beside it.
     Main,
     /// Its `requires` is one more part of the last invariant.
     Part,
@@ -180,6 +180,9 @@ fn changed_procedures(
     let proc = proc.try_clone(alloc)?;
     let mut procs = List::new(alloc);
     procs.push(changed(alloc, proc, change)?)?;
+    if change == Change::Main {
+        return Ok(procs);
+    }
     procedures(alloc, procs, p, 1)
 }
 

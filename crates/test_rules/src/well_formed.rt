@@ -6,6 +6,7 @@ use crate::writing::put;
 use fsl_base::{List, Text};
 use fsl_core::{Mode, Program};
 use std::alloc::{AllocError, Global};
+use std::process::Abort;
 use std::test::Fail;
 
 /// Other invariants for programs with `inv I(x) of v { emp } { emp }`, by their names.
@@ -59,60 +60,83 @@ const CALLS: [&str; 19] = [
     "proc f() ensures (Init(1)) { } proc main() { } => proc f() { } proc main() { par { f(); f(); } } => Kept",
 ];
 
-/// A procedure that is to be the only one, and whether it can be as `main`.
-const MAINS: [&str; 5] = [
-    "proc f() { print(1); } => Main",
-    "proc f() ensures (Init(1)) { } => Main",
-    "proc f(x) { } => none",
-    "proc f() requires (Init(1)) { } => none",
-    "proc f() requires (0 == 0) { } => none",
-];
+/// Rows that stand in one text, and the changes that are made of the procedure there.
+struct Frame {
+    front: &'static str,
+    back: &'static str,
+    changes: &'static [Change],
+    rows: &'static [&'static str],
+}
 
-/// The places of an assertion that `requires` allows.
-const PLACES: [Change; 6] = [
-    Change::Kept,
-    Change::Part,
-    Change::Fence,
-    Change::Loop,
-    Change::Up,
-    Change::Down,
-];
-
-/// An assertion, and those of its places in which it gives a program.
-const PLACED: [&str; 7] = [
-    "Init(1) => Kept Part Fence Loop Up Down",
-    "Acq(1, I(2), 0, {}) => Kept Part Fence Loop Up Down",
-    "up(Init(1)) => Kept Loop",
-    "down(Init(1)) => Kept Loop",
-    "emp &*& up(Init(1)) => Kept Loop",
-    "if (1 == 2) { down(emp) } else { emp } => Kept Loop",
-    "if (1 == 2) { emp } else { up(emp) } => Kept Loop",
-];
-
-const MODES: [Change; 5] = [
-    Change::Mode(Mode::Na),
-    Change::Mode(Mode::Rlx),
-    Change::Mode(Mode::Acq),
-    Change::Mode(Mode::Rel),
-    Change::Mode(Mode::AcqRel),
-];
-
-/// A statement, and the modes that it may have.
-const IN_MODES: [&str; 6] = [
-    "let x = load rlx(1); => Na Rlx Acq",
-    "store rlx(1, 2); => Na Rlx Rel",
-    "let x = cas rlx rlx(1, 2, 3); => Rlx Acq Rel AcqRel",
-    "let x = fetch_add rlx(1, 2); => Rlx Acq Rel AcqRel",
-    "let x = exchange rlx(1, 2); => Rlx Acq Rel AcqRel",
-    "fence acq; => Acq Rel AcqRel",
-];
-
-const MISSES: [Change; 5] = [
-    Change::Miss(Mode::Na),
-    Change::Miss(Mode::Rlx),
-    Change::Miss(Mode::Acq),
-    Change::Miss(Mode::Rel),
-    Change::Miss(Mode::AcqRel),
+/// What is changed, and with which changes it gives a program.
+const FRAMES: [Frame; 4] = [
+    // a procedure
+    Frame {
+        front: "",
+        back: "",
+        changes: &[Change::Main],
+        rows: &[
+            "proc f() { print(1); } => Main",
+            "proc f() ensures (Init(1)) { } => Main",
+            "proc f(x) { } => none",
+            "proc f() requires (Init(1)) { } => none",
+            "proc f() requires (0 == 0) { } => none",
+        ],
+    },
+    // an assertion
+    Frame {
+        front: "inv I(x) of v { emp } proc f() requires (",
+        back: ") { }",
+        changes: &[
+            Change::Kept,
+            Change::Part,
+            Change::Fence,
+            Change::Loop,
+            Change::Up,
+            Change::Down,
+        ],
+        rows: &[
+            "Init(1) => Kept Part Fence Loop Up Down",
+            "Acq(1, I(2), 0, {}) => Kept Part Fence Loop Up Down",
+            "up(Init(1)) => Kept Loop",
+            "down(Init(1)) => Kept Loop",
+            "emp &*& up(Init(1)) => Kept Loop",
+            "if (1 == 2) { down(emp) } else { emp } => Kept Loop",
+            "if (1 == 2) { emp } else { up(emp) } => Kept Loop",
+        ],
+    },
+    // a statement
+    Frame {
+        front: "proc f() { ",
+        back: " }",
+        changes: &[
+            Change::Mode(Mode::Na),
+            Change::Mode(Mode::Rlx),
+            Change::Mode(Mode::Acq),
+            Change::Mode(Mode::Rel),
+            Change::Mode(Mode::AcqRel),
+        ],
+        rows: &[
+            "let x = load rlx(1); => Na Rlx Acq",
+            "store rlx(1, 2); => Na Rlx Rel",
+            "let x = cas rlx rlx(1, 2, 3); => Rlx Acq Rel AcqRel",
+            "let x = fetch_add rlx(1, 2); => Rlx Acq Rel AcqRel",
+            "let x = exchange rlx(1, 2); => Rlx Acq Rel AcqRel",
+            "fence acq; => Acq Rel AcqRel",
+        ],
+    },
+    Frame {
+        front: "proc f() { ",
+        back: " }",
+        changes: &[
+            Change::Miss(Mode::Na),
+            Change::Miss(Mode::Rlx),
+            Change::Miss(Mode::Acq),
+            Change::Miss(Mode::Rel),
+            Change::Miss(Mode::AcqRel),
+        ],
+        rows: &["let x = cas rlx rlx(1, 2, 3); => Rlx Acq"],
+    },
 ];
 
 /// The name of a change.
@@ -186,24 +210,11 @@ fn fitting(alloc: Global, procs: &str) -> Result<Text, AllocError> {
     Ok(text)
 }
 
-/// The places of an assertion in which it gives a program.
-fn placed(alloc: Global, a: &str) -> Result<Text, AllocError> {
-    let text = format!(in alloc;
-        "inv I(x) of v {{ emp }} proc f() requires ({a}) {{ }} proc main() {{ }}"
-    )?;
-    mixed(alloc, text.as_str(), text.as_str(), &PLACES)
-}
-
-/// The changes with which a statement gives a program.
-fn in_modes(alloc: Global, stmt: &str, all: &[Change]) -> Result<Text, AllocError> {
-    let text = format!(in alloc; "proc f() {{ {stmt} }} proc main() {{ }}")?;
-    mixed(alloc, text.as_str(), text.as_str(), all)
-}
-
-/// Whether a procedure is a program alone, as `main`.
-fn alone(alloc: Global, proc: &str) -> Result<Text, AllocError> {
-    let text = format!(in alloc; "{proc} proc main() {{ }}")?;
-    mixed(alloc, text.as_str(), "proc main() { }", &[Change::Main])
+/// The changes with which the procedure of a row gives a program.
+fn framed(alloc: Global, frame: &Frame, row: &str) -> Result<Text, AllocError> {
+    let (front, back) = (frame.front, frame.back);
+    let text = format!(in alloc; "{front}{row}{back} proc main() {{ }}")?;
+    mixed(alloc, text.as_str(), text.as_str(), frame.changes)
 }
 
 #[test]
@@ -227,22 +238,20 @@ fn calls_fit_procedures(rt: HostRuntime) -> Result<(), Fail> {
     Ok(())
 }
 
+/// Whether each row of a frame gives programs with the changes that it says.
+fn are_answered(rt: &impl Abort, alloc: Global, frame: &Frame) -> Result<(), Fail> {
+    for row in frame.rows {
+        let (case, wanted) = row.split_once(" => ").ok_or("no row")?;
+        let got = framed(alloc, frame, case)?;
+        assert_eq!(rt; got.as_str(), wanted, "{row}");
+    }
+    Ok(())
+}
+
 #[test]
-fn assertions_and_modes_stand_in_their_places(rt: HostRuntime) -> Result<(), Fail> {
-    for row in MAINS {
-        let (proc, wanted) = row.split_once(" => ").ok_or(row)?;
-        let got = alone(rt.alloc(), proc)?;
-        assert_eq!(rt; got.as_str(), wanted, "{row}");
-    }
-    for row in PLACED {
-        let (a, wanted) = row.split_once(" => ").ok_or(row)?;
-        let got = placed(rt.alloc(), a)?;
-        assert_eq!(rt; got.as_str(), wanted, "{row}");
-    }
-    for row in IN_MODES {
-        let (stmt, wanted) = row.split_once(" => ").ok_or(row)?;
-        let got = in_modes(rt.alloc(), stmt, &MODES)?;
-        assert_eq!(rt; got.as_str(), wanted, "{row}");
+fn a_changed_procedure_gives_a_program(rt: HostRuntime) -> Result<(), Fail> {
+    for frame in &FRAMES {
+        are_answered(&rt, rt.alloc(), frame)?;
     }
     Ok(())
 }

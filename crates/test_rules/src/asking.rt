@@ -1,29 +1,28 @@
-//! Conditions on two numbers a and b of which something is known: decided, assumed and demanded.
+//! What conditions and expressions come to, where something is known of two numbers a and b.
 use crate::reading::program;
-use crate::starting::{no_program, not_built, only};
-use crate::writing::{failure, put, relation};
-use fsl_asrt::{Bound, Branch, Decided, assume_cond, decide, decide_cond, demand_cond, read};
+use crate::starting::{no_program, only};
+use crate::writing::{failure, put, relation, term_text};
+use fsl_asrt::{Bound, Branch, Decided, assume_cond, decide_cond, demand_cond, read};
 use fsl_base::{List, Text};
 use fsl_chunk::{Env, State, Went};
-use fsl_core::{Act, Cond, Kind, Proc, Stmt};
+use fsl_core::{Act, Cond, Expr, Kind, Proc};
 use std::alloc::{AllocError, Global};
 use std::process::Abort;
 use std::test::Fail;
 
-/// What is asked of a condition.
+/// What is asked of a condition, or of an expression.
 #[derive(Clone, Copy, Debug, PartialEq, Eq)]
 enum How {
-    /// `decide`, with the terms of its sides.
-    Compared,
     Decided,
     Assumed,
     /// Assumed not to hold.
     Denied,
     Demanded,
+    Term,
 }
 
-/// What is known of a and b, a comparison, and its branches: the answer, and how a and b compare there.
-const COMPARED: &[&str] = &[
+/// What is known of a and b, a condition, and its branches: the answer, and how a and b compare there.
+const DECIDED: &[&str] = &[
     "emp => a == b => yes == | no < | no >",
     "emp => a != b => yes < | yes > | no ==",
     "emp => a < b => yes < | no >=",
@@ -60,13 +59,12 @@ const COMPARED: &[&str] = &[
     "a >= b => a <= b => yes == | no >",
     "a >= b => a > b => yes > | no ==",
     "a >= b => a >= b => yes >=",
+    "a < b => true => yes <",
+    "a < b => false => no <",
     "emp => 0 == a * b => fails Term",
     "emp => a * b < 0 => fails Term",
     "emp => 16777216 * a == 0 - a => fails Term | fails Term | fails Term",
 ];
-
-/// The same for other conditions.
-const DECIDED: &[&str] = &["a < b => true => yes <", "a < b => false => no <"];
 
 /// What is known, a condition, and how a and b compare on the branches where it holds.
 const ASSUMED: &[&str] = &[
@@ -112,14 +110,39 @@ const DEMANDED: &[&str] = &[
     "emp => 16777216 * a == 0 - a => fails Assert",
 ];
 
+/// What is known, an expression, and its term.
+const TERMS: &[&str] = &[
+    "emp => 5 => 5",
+    "emp => -9223372036854775808 => -9223372036854775808",
+    "emp => b => b",
+    "emp => -(a - 4) => -a + 4",
+    "emp => 7 - b => -b + 7",
+    "emp => a - (b - 4) + 1 + b => a + 5",
+    "emp => 3 * a => 3 * a",
+    "emp => a * 3 => 3 * a",
+    "emp => 2 * (a - 1) * 3 => 6 * a + -6",
+    "emp => a * b => no term",
+    "emp => (a - b) * b => no term",
+    "a == b => (a - b) * b => 0",
+    "a == 2 => a * b => 2 * b",
+    "b == 2 => a * b => 2 * a",
+    "a == 2 &*& b == 3 => a * b => 2 * b",
+    "2 <= a &*& a <= 2 => a * b => no term",
+    "emp => 16777216 * a => 16777216 * a",
+    "emp => 16777217 * a => no term",
+    "emp => 16777216 * a + a - a => no term",
+    "emp => 16777216 * a - a + a => 16777216 * a",
+    "emp => 9223372036854775808 * 134217728 => 1237940039285380274899124224",
+    "emp => 9223372036854775808 * 134217728 + 1 => no term",
+];
+
 /// All of these, by what is asked.
-const TABLES: [(How, &[&str]); 6] = [
-    (How::Compared, COMPARED),
-    (How::Decided, COMPARED),
+const TABLES: [(How, &[&str]); 5] = [
     (How::Decided, DECIDED),
     (How::Assumed, ASSUMED),
     (How::Denied, DENIED),
     (How::Demanded, DEMANDED),
+    (How::Term, TERMS),
 ];
 
 /// How a and b compare in a state.
@@ -180,18 +203,7 @@ fn demand(alloc: Global, state: State, cond: &Cond, env: &Env) -> Result<Text, A
     }
 }
 
-/// The branches of a comparison of the terms of two expressions.
-fn comparison(alloc: Global, state: State, cond: &Cond, env: &Env) -> Result<Text, AllocError> {
-    let Cond::Cmp { op, l, r } = cond else {
-        return Text::from_str(alloc, "no comparison");
-    };
-    let (Some(a), Some(b)) = (read(alloc, &state, l, env)?, read(alloc, &state, r, env)?) else {
-        return failure(alloc, Kind::Term);
-    };
-    decisions(alloc, &decide(alloc, state, *op, &a, &b)?, env)
-}
-
-/// What is asked of a condition.
+/// What a condition comes to.
 fn asked(
     alloc: Global,
     state: State,
@@ -200,42 +212,41 @@ fn asked(
     how: How,
 ) -> Result<Text, AllocError> {
     match how {
-        How::Compared => comparison(alloc, state, cond, env),
         How::Decided => decisions(alloc, &decide_cond(alloc, state, cond, env)?, env),
         How::Assumed => assumptions(alloc, &assume_cond(alloc, state, true, cond, env)?, env),
         How::Denied => assumptions(alloc, &assume_cond(alloc, state, false, cond, env)?, env),
-        How::Demanded => demand(alloc, state, cond, env),
+        _ => demand(alloc, state, cond, env),
     }
 }
 
-/// The condition of the `if` that a procedure is.
-fn condition(proc: &Proc) -> Option<&Cond> {
-    match proc.body.get(0) {
-        Some(
-            Stmt {
-                act: Act::If { cond, .. },
-                ..
-            },
-        ) => Some(cond),
-        _ => None,
+/// What an expression comes to.
+fn valued(alloc: Global, state: &State, e: &Expr, env: &Env) -> Result<Text, AllocError> {
+    match read(alloc, state, e, env)? {
+        Some(t) => term_text(alloc, &t),
+        None => Text::from_str(alloc, "no term"),
     }
 }
 
-/// What is asked of the condition of a procedure.
+/// What becomes of the first statement of a procedure.
 fn judged(alloc: Global, proc: &Proc, how: How) -> Result<Text, AllocError> {
-    let Some(cond) = condition(proc) else {
-        return no_program(alloc);
-    };
-    match only(alloc, proc)? {
-        Some(Bound::Goes { state, env }) => asked(alloc, state, cond, &env, how),
-        _ => not_built(alloc),
+    match (only(alloc, proc)?, proc.body.get(0)) {
+        (Some(Bound::Goes { state, env }), Some(stmt)) => match &stmt.act {
+            Act::If { cond, .. } => asked(alloc, state, cond, &env, how),
+            Act::Print { e } => valued(alloc, &state, e, &env),
+            _ => no_program(alloc),
+        },
+        _ => no_program(alloc),
     }
 }
 
-/// What is asked of a condition, where this is known.
-fn answer(alloc: Global, known: &str, cond: &str, how: How) -> Result<Text, AllocError> {
+/// What a condition or an expression comes to, where this is known.
+fn answer(alloc: Global, known: &str, what: &str, how: How) -> Result<Text, AllocError> {
+    let (front, back) = match how {
+        How::Term => ("print(", ");"),
+        _ => ("if (", ") { }"),
+    };
     let text = format!(in alloc;
-        "proc f(a, b) requires ({known}) {{ if ({cond}) {{ }} }} proc main() {{ }}"
+        "proc f(a, b) requires ({known}) {{ {front}{what}{back} }} proc main() {{ }}"
     )?;
     match program(alloc, text.as_str()) {
         Some(p) => match p.procs().first() {
@@ -250,15 +261,15 @@ fn answer(alloc: Global, known: &str, cond: &str, how: How) -> Result<Text, Allo
 fn are_answered(rt: &impl Abort, alloc: Global, how: How, rows: &[&str]) -> Result<(), Fail> {
     for row in rows {
         let (known, rest) = row.split_once(" => ").ok_or("no row")?;
-        let (cond, wanted) = rest.split_once(" => ").ok_or("no row")?;
-        let got = answer(alloc, known, cond, how)?;
+        let (what, wanted) = rest.split_once(" => ").ok_or("no row")?;
+        let got = answer(alloc, known, what, how)?;
         assert_eq!(rt; got.as_str(), wanted, "{how:?}: {row}");
     }
     Ok(())
 }
 
 #[test]
-fn a_condition_is_asked(rt: HostRuntime) -> Result<(), Fail> {
+fn conditions_and_expressions_are_answered(rt: HostRuntime) -> Result<(), Fail> {
     for (how, rows) in TABLES {
         are_answered(&rt, rt.alloc(), how, rows)?;
     }
