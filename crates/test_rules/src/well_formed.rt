@@ -18,7 +18,7 @@ const INVARIANTS: [(&str, &str); 4] = [
 ];
 
 /// Procedures, and the invariants that they go with.
-const USES: [&str; 16] = [
+const USES: &[&str] = &[
     "proc f(p) { } => none one two pair",
     "proc f(p) requires (Rel(p, I(1))) { } => one two",
     "proc f(p) requires (RmwAcq(p, I(1))) { } => one two",
@@ -38,7 +38,7 @@ const USES: [&str; 16] = [
 ];
 
 /// A program whose first procedure stands in the place of another's, and whether that is a program.
-const CALLS: [&str; 19] = [
+const CALLS: &[&str] = &[
     "proc f() { print(1); } proc main() { } => proc f() { } proc main() { call f(); } => Kept",
     "proc f(x) { } proc main() { } => proc f() { } proc main() { call f(); } => none",
     "proc f() { } proc main() { } => proc f(x) { } proc main() { call f(1); } => none",
@@ -217,25 +217,35 @@ fn framed(alloc: Global, frame: &Frame, row: &str) -> Result<Text, AllocError> {
     mixed(alloc, text.as_str(), text.as_str(), frame.changes)
 }
 
-#[test]
-fn uses_fit_invariants(rt: HostRuntime) -> Result<(), Fail> {
-    for row in USES {
-        let (procs, wanted) = row.split_once(" => ").ok_or(row)?;
-        let got = fitting(rt.alloc(), procs)?;
+/// Whether the procedures of each row go with the invariants that it says.
+fn are_used(rt: &impl Abort, alloc: Global, rows: &[&str]) -> Result<(), Fail> {
+    for row in rows {
+        let (procs, wanted) = row.split_once(" => ").ok_or("no row")?;
+        let got = fitting(alloc, procs)?;
+        assert_eq!(rt; got.as_str(), wanted, "{row}");
+    }
+    Ok(())
+}
+
+/// Whether the first program's procedure gives a program with the second's, as each row says.
+fn are_called(rt: &impl Abort, alloc: Global, rows: &[&str]) -> Result<(), Fail> {
+    for row in rows {
+        let (one, rest) = row.split_once(" => ").ok_or("no row")?;
+        let (other, wanted) = rest.split_once(" => ").ok_or("no row")?;
+        let got = mixed(alloc, one, other, &[Change::Kept])?;
         assert_eq!(rt; got.as_str(), wanted, "{row}");
     }
     Ok(())
 }
 
 #[test]
+fn uses_fit_invariants(rt: HostRuntime) -> Result<(), Fail> {
+    are_used(&rt, rt.alloc(), USES)
+}
+
+#[test]
 fn calls_fit_procedures(rt: HostRuntime) -> Result<(), Fail> {
-    for row in CALLS {
-        let (one, rest) = row.split_once(" => ").ok_or(row)?;
-        let (other, wanted) = rest.split_once(" => ").ok_or(row)?;
-        let got = mixed(rt.alloc(), one, other, &[Change::Kept])?;
-        assert_eq!(rt; got.as_str(), wanted, "{row}");
-    }
-    Ok(())
+    are_called(&rt, rt.alloc(), CALLS)
 }
 
 /// Whether each row of a frame gives programs with the changes that it says.

@@ -6,8 +6,8 @@ use fsl_core::{Chunk, Kind};
 use fsl_lin::{Lin, Sym};
 use std::alloc::{AllocError, Global};
 
-/// The symbols by their numbers: the two parameters of each row's procedure, and then its binders.
-const NAMES: [&str; 4] = ["a", "b", "c", "d"];
+/// The symbols with their names: the two parameters of each row's procedure, and then its binders.
+const NAMES: [(Sym, &str); 4] = [(Sym(0), "a"), (Sym(1), "b"), (Sym(2), "c"), (Sym(3), "d")];
 
 /// All shares of a cell, which aren't written.
 const FULL: &str = "9223372036854775808";
@@ -32,13 +32,11 @@ fn multiple(alloc: Global, count: i128, name: &str) -> Result<String, AllocError
 /// A term, such as `-a + 2 * b + 7`.
 pub fn term_text(alloc: Global, t: &Lin) -> Result<Text, AllocError> {
     let mut text = Text::new(alloc);
-    let mut number = 0;
-    for name in NAMES {
-        let count = t.coefficient(Sym(number));
+    for (symbol, name) in NAMES {
+        let count = t.coefficient(symbol);
         if count != 0 {
             put(&mut text, " + ", multiple(alloc, count, name)?.as_str())?;
         }
-        number += 1;
     }
     let rest = t.rest();
     if rest != 0 || text.as_str().is_empty() {
