@@ -1,5 +1,5 @@
 //! A procedure of one text among the declarations of another, changed in ways that no text could say.
-use fsl_base::{Boxed, List, Text, TryClone};
+use fsl_base::{Boxed, List, Span, Text, TryClone};
 use fsl_core::{Act, Asrt, Cond, Inv, Mode, Proc, Program, Stmt};
 use std::alloc::{AllocError, Global};
 use std::mem;
@@ -25,14 +25,11 @@ pub enum Change {
     Miss(Mode),
 }
 
-/// A procedure whose body is one statement.
-fn with_act(alloc: Global, proc: Proc, act: Act) -> Result<Proc, AllocError> {
-    let mut proc = proc;
-    let span = proc.last;
+/// A body of one statement.
+fn body_of(alloc: Global, span: Span, act: Act) -> Result<List<Stmt>, AllocError> {
     let mut body = List::new(alloc);
     body.push(Stmt { span, act })?;
-    proc.body = body;
-    Ok(proc)
+    Ok(body)
 }
 
 /// An assertion in a modality.
@@ -41,30 +38,30 @@ fn modal(alloc: Global, a: Asrt, up: bool) -> Result<Asrt, AllocError> {
     Ok(if up { Asrt::Up { a } } else { Asrt::Down { a } })
 }
 
-/// A loop with an invariant.
-fn with_inv(alloc: Global, inv: Asrt) -> Act {
-    Act::While {
-        cond: Cond::Yes,
-        inv,
-        body: List::new(alloc),
+/// A loop with an invariant, or a fence that sets something apart.
+fn act_with(alloc: Global, asrt: Asrt, change: Change) -> Act {
+    match change {
+        Change::Loop => Act::While {
+            cond: Cond::Yes,
+            inv: asrt,
+            body: List::new(alloc),
+        },
+        _ => Act::Fence {
+            mode: Mode::Rel,
+            asrt,
+        },
     }
 }
 
-/// A procedure with its `requires` at another place.
-fn moved(alloc: Global, proc: Proc, change: Change) -> Result<Proc, AllocError> {
-    let mut proc = proc;
+/// Puts the `requires` of a procedure at another place.
+fn put_requires(alloc: Global, proc: &mut Proc, change: Change) -> Result<(), AllocError> {
     let asrt = mem::replace(&mut proc.pre, Asrt::Emp);
     match change {
-        Change::Loop => with_act(alloc, proc, with_inv(alloc, asrt)),
-        Change::Fence => {
-            let mode = Mode::Rel;
-            with_act(alloc, proc, Act::Fence { mode, asrt })
-        }
-        _ => {
-            proc.pre = modal(alloc, asrt, change == Change::Up)?;
-            Ok(proc)
-        }
+        Change::Up => proc.pre = modal(alloc, asrt, true)?,
+        Change::Down => proc.pre = modal(alloc, asrt, false)?,
+        _ => proc.body = body_of(alloc, proc.last, act_with(alloc, asrt, change))?,
     }
+    Ok(())
 }
 
 /// Gives an act another mode.
@@ -88,35 +85,30 @@ fn set_miss(act: &mut Act, to: Mode) {
     }
 }
 
-/// A procedure with another mode in its last statement.
-fn with_mode(proc: Proc, mode: Mode, is_miss: bool) -> Result<Proc, AllocError> {
-    let mut proc = proc;
-    if let Some(mut stmt) = proc.body.pop() {
-        if is_miss {
-            set_miss(&mut stmt.act, mode);
-        } else {
-            set_mode(&mut stmt.act, mode);
-        }
-        proc.body.push(stmt)?;
+/// Gives the last statement of a body another mode.
+fn put_mode(body: &mut List<Stmt>, mode: Mode, is_miss: bool) -> Result<(), AllocError> {
+    let Some(mut stmt) = body.pop() else {
+        return Ok(());
+    };
+    if is_miss {
+        set_miss(&mut stmt.act, mode);
+    } else {
+        set_mode(&mut stmt.act, mode);
     }
-    Ok(proc)
+    body.push(stmt)
 }
 
-/// A procedure of another name.
-fn with_name(alloc: Global, proc: Proc, name: &str) -> Result<Proc, AllocError> {
-    let mut proc = proc;
-    proc.name = Text::from_str(alloc, name)?;
-    Ok(proc)
-}
-
-/// A procedure, changed.
-fn changed(alloc: Global, proc: Proc, change: Change) -> Result<Proc, AllocError> {
+/// Makes a change.
+fn put(alloc: Global, proc: &mut Proc, change: Change) -> Result<(), AllocError> {
     match change {
-        Change::Kept | Change::Part => Ok(proc),
-        Change::Main => with_name(alloc, proc, "main"),
-        Change::Mode(mode) => with_mode(proc, mode, false),
-        Change::Miss(mode) => with_mode(proc, mode, true),
-        _ => moved(alloc, proc, change),
+        Change::Kept | Change::Part => Ok(()),
+        Change::Main => {
+            proc.name = Text::from_str(alloc, "main")?;
+            Ok(())
+        }
+        Change::Mode(mode) => put_mode(&mut proc.body, mode, false),
+        Change::Miss(mode) => put_mode(&mut proc.body, mode, true),
+        _ => put_requires(alloc, proc, change),
     }
 }
 
@@ -177,9 +169,10 @@ fn changed_procedures(
     proc: &Proc,
     change: Change,
 ) -> Result<List<Proc>, AllocError> {
-    let proc = proc.try_clone(alloc)?;
+    let mut proc = proc.try_clone(alloc)?;
+    put(alloc, &mut proc, change)?;
     let mut procs = List::new(alloc);
-    procs.push(changed(alloc, proc, change)?)?;
+    procs.push(proc)?;
     if change == Change::Main {
         return Ok(procs);
     }
