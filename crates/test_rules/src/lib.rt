@@ -9,14 +9,10 @@ mod asking;
 #[cfg(test)]
 mod asserting;
 #[cfg(test)]
-mod changing;
-#[cfg(test)]
 mod outcomes;
 #[cfg(test)]
 mod reading;
 #[cfg(test)]
 mod starting;
-#[cfg(test)]
-mod well_formed;
 #[cfg(test)]
 mod writing;
