@@ -69,13 +69,14 @@ fn the_path_too_many_fails_by_itself(rt: HostRuntime) -> Result<(), AllocError> 
     walked(&rt, alloc, front.as_str(), piece, 16, back, said)
 }
 
-// Of the three branches of each `if` the one on which the number is less than 0 contradicts the facts.
+// Of the three branches of each `if` the one on which the number is less than 0 contradicts the facts. If it counted,
+// eleven would be too many.
 #[test]
 fn absurd_branches_are_not_counted(rt: HostRuntime) -> Result<(), AllocError> {
     let alloc = rt.alloc();
     let piece = ("if (p", " == 0) { }\n");
     let back = "}\nproc main() { }";
-    walked(&rt, alloc, COUNTS, piece, 16, back, "accepted 2\n")
+    walked(&rt, alloc, COUNTS, piece, 11, back, "accepted 2\n")
 }
 
 // The end of a loop's body is the end of a path: behind 32768 paths two for each, the first at the `while`.
@@ -113,19 +114,28 @@ fn branches_and_loops_in_a_row(rt: HostRuntime) -> Result<(), AllocError> {
     Ok(())
 }
 
-// Each `alloc` makes a symbol, and so does what comes behind a loop for the variable that its body sets.
+// Each `alloc` makes a symbol, and so does what comes behind a loop for each variable that its body sets.
 #[test]
 fn the_most_symbols_of_a_path(rt: HostRuntime) -> Result<(), AllocError> {
     let alloc = rt.alloc();
-    let front = "proc main() { let x = 0;\n";
-    for (before, after) in [
-        ("x = alloc na; // ", "\n"),
-        ("while (false) { x = ", "; }\n"),
+    let front = "proc main() { let x = 0; let y = 0;\n";
+    for (before, after, most, said) in [
+        (
+            "x = alloc na; // ",
+            "\n",
+            512,
+            "failed main 514:1 symbols\n",
+        ),
+        (
+            "while (false) { x = ",
+            "; y = 1; }\n",
+            256,
+            "failed main 258:1 symbols\n",
+        ),
     ] {
         let piece = (before, after);
-        walked(&rt, alloc, front, piece, 512, "}", "accepted 1\n")?;
-        let said = "failed main 514:1 symbols\n";
-        walked(&rt, alloc, front, piece, 513, "}", said)?;
+        walked(&rt, alloc, front, piece, most, "}", "accepted 1\n")?;
+        walked(&rt, alloc, front, piece, most + 1, "}", said)?;
     }
     Ok(())
 }
