@@ -6,7 +6,6 @@ pub mod BegunGroups
 pub mod BegunStatements
 pub mod Depth
 pub mod GroupTokens
-pub mod Holding
 pub mod Layers
 pub mod Level
 pub mod LevelAssertions

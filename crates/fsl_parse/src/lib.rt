@@ -18,12 +18,8 @@ mod fault;
 mod file;
 mod groups;
 mod parser;
-#[cfg(test)]
-mod program_tests;
 mod right_sides;
 mod statements;
-#[cfg(test)]
-mod tests;
 mod uses;
 
 use crate::parser::Parser;

@@ -1,9 +1,9 @@
 //! Whole programs: each is read, each of its declarations cut short is not, and what is printed of it reads back.
 ghost use Rattle.fsl_token.specs.Reading.{AreTokensOf};
 
-use crate::tests::{Outcome, reading, tokens_of};
-use crate::{ParseFault, parse};
+use crate::reading::{Outcome, reading, tokens_of};
 use fsl_base::{List, Span, Text};
+use fsl_parse::{ParseFault, parse};
 use fsl_token::{Token, lex};
 use fsl_tree::{laws, print};
 use std::alloc::{AllocError, Global};

@@ -1,6 +1,6 @@
 //! Texts with what reading them gives: files that are read, and the exact places of faults in others.
-use crate::{ParseFault, parse};
 use fsl_base::List;
+use fsl_parse::{ParseFault, parse};
 use fsl_token::{Token, lex};
 use std::alloc::{AllocError, Global};
 
