@@ -9,6 +9,9 @@ use std::alloc::{AllocError, Global};
 /// The symbols with their names: the two parameters of each row's procedure, and then its binders.
 const NAMES: [(Sym, &str); 4] = [(Sym(0), "a"), (Sym(1), "b"), (Sym(2), "c"), (Sym(3), "d")];
 
+/// How many variables a row's procedure has at most.
+const VARIABLES: u32 = 4;
+
 /// All shares of a cell, which aren't written.
 const FULL: &str = "9223372036854775808";
 
@@ -123,7 +126,7 @@ fn put_fact(
 
 /// What is known of each pair of variables.
 fn put_facts(alloc: Global, text: &mut Text, state: &State, env: &Env) -> Result<(), AllocError> {
-    for later in 0..env.len() as u32 {
+    for later in 0..VARIABLES {
         for earlier in 0..later {
             if let (Some(a), Some(b)) = (env.get(earlier), env.get(later)) {
                 put_fact(alloc, text, state, a, b)?;
