@@ -8,4 +8,5 @@ pub mod Reduced
 pub mod Ring
 pub mod Rows
 pub mod Sizes
+pub mod Taken
 pub mod Terms

@@ -54,6 +54,11 @@ narrow_at [] k d h n = absurd (omega arith)
 narrow_at (e ∷ es) zero d h n = n.0
 narrow_at (e ∷ es) (suc k) d h n = narrow_at es k d (omega arith) n.2
 
+pub kept_at : (es : List Equation) (k : ℕ) (d : Equation) → k < length es → AreNarrow es → IsKept (get_or es k d).lin
+kept_at [] k d h n = absurd (omega arith)
+kept_at (e ∷ es) zero d h n = n.1
+kept_at (e ∷ es) (suc k) d h n = kept_at es k d (omega arith) n.2
+
 line_end : (x y : ℤ) → x -ℤ (y +ℤ pos 0) ≡ x -ℤ y
 line_end x y = omega (arith, ints)
 

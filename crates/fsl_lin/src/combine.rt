@@ -146,6 +146,20 @@ pub fn number_products(alloc: Global, numbers: &[i128], k: &i128) -> Result<Vec<
     Ok(scaled)
 }
 
+/// The numbers up to the last one that isn't 0.
+pub fn used(numbers: &[i128]) -> &[i128]
+    ensures { result.now ≡ trim numbers.now }
+{
+    let mut used = numbers;
+    while let Some((last, before)) = used.split_last() {
+        if *last != 0 {
+            return used;
+        }
+        used = before;
+    }
+    used
+}
+
 /// Takes the zeros at the end off.
 pub fn trim(terms: &mut Vec<i32>)
     ensures { terms.new.items ≡ trim terms.old.items }

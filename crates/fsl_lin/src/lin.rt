@@ -6,7 +6,7 @@ ghost use Rattle.fsl_lin.specs.Numbers.{part, fits, listed, scaled};
 ghost use Rattle.fsl_lin.specs.Sign.{signed};
 
 use crate::combine::{
-    at, joined, number_products, products, rest, rest_joined, rest_product, trim, unit,
+    at, joined, number_products, products, rest, rest_joined, rest_product, trim, unit, used,
 };
 use crate::fault::LinFault;
 use crate::sign::Sign;
@@ -166,7 +166,7 @@ impl Lin {
         let Some(rest) = rest_product(constant, k) else {
             return Err(LinFault::Wide);
         };
-        match number_products(alloc, coefficients, k) {
+        match number_products(alloc, used(coefficients), k) {
             Ok(terms) => Ok(Lin::from_parts(terms, rest)),
             Err(fault) => Err(fault),
         }

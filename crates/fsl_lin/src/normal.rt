@@ -1,8 +1,8 @@
-//! Normal forms, number by number: each is exact, whatever its size.
-ghost use Rattle.std.specs.Prelude.{◌≡◌, ℕ, ◌<◌, ◌≤◌, ◌^◌, ◌*ℤ◌, pos, length, get_or, true, false, IfOk, OnOk, IsErrOf};
-ghost use Rattle.fsl_lin.specs.Combination.{IsKept, coefficient};
+//! Normal forms: each number is exact, whatever its size.
+ghost use Rattle.std.specs.Prelude.{◌≡◌, ℕ, ◌≤◌, ◌^◌, ◌-ℤ◌, ◌*ℤ◌, length, true, false, IfOk, OnOk, IsErrOf};
+ghost use Rattle.fsl_lin.specs.Combination.{IsKept, coefficient, is_within};
 ghost use Rattle.fsl_lin.specs.Numbers.{part, fits, listed};
-ghost use Rattle.fsl_lin.specs.Rows.{taken, normal};
+ghost use Rattle.fsl_lin.specs.Rows.{normal};
 ghost use Rattle.fsl_lin.specs.Equations.{AreNarrow, rows_of};
 ghost use Rattle.fsl_lin.specs.Sizes.{IsSize};
 
@@ -14,34 +14,60 @@ use std::alloc::Global;
 /// The places of a term: that of the constant and those of the symbols.
 pub const PLACES: usize = 513;
 
-/// What an equation takes of a place of a term, so that its pivot goes.
-fn share_at(equation: &Equation, t: &Lin, i: usize) -> i128
-    ensures value { result ≡ coefficient t.now equation.now.sym.0 *ℤ part equation.now.lin i }
+/// Writes the numbers of a term into an array.
+fn write_parts(t: &Lin, numbers: &mut [i128])
+    requires { length numbers.old ≡ 513 }
+    ensures value { listed numbers.new ≡ part t.now }
+    ensures kept { IsKept t.now }
+{
+    let _width = t.width();
+    for i in 0..numbers.len() {
+        numbers[i] = t.part(i);
+    }
+}
+
+/// k times the number of a term at a place.
+fn share(k: &i128, lin: &Lin, i: usize) -> i128
+    requires { is_within (2 ^ 24) k.now ≡ true }
+    ensures value { result ≡ k.now *ℤ part lin.now i }
     ensures size { IsSize (2 ^ 114) result }
 {
-    t.coefficient(equation.sym) * equation.lin.part(i)
+    *k * lin.part(i)
 }
 
-/// What the equations take of a place of a term, so that their pivots go.
-fn taken_at(equations: &[Equation], t: &Lin, i: usize) -> i128
-    requires { length equations.now ≤ 512 }
-    ensures value { result ≡ taken (rows_of equations.now) (part t.now) i }
-    ensures size { IsSize (2 ^ 123) result }
+/// A number without k times that of a term at a place.
+fn less(x: &i128, k: &i128, lin: &Lin, i: usize) -> i128
+    requires size { IsSize (2 ^ 124) x.now }
+    requires narrow { is_within (2 ^ 24) k.now ≡ true }
+    ensures value { result ≡ x.now -ℤ (k.now *ℤ part lin.now i) }
+    ensures size { IsSize (2 ^ 125) result }
 {
-    let mut sum = 0;
-    for equation in equations {
-        sum += share_at(equation, t, i);
+    *x - share(k, lin, i)
+}
+
+/// Takes k times a term from an array. Past its width the term has 0, which takes nothing.
+fn take(numbers: &mut [i128], k: &i128, lin: &Lin)
+    requires whole { length numbers.old ≡ 513 }
+    requires size { (i : ℕ) → IsSize (2 ^ 124) (listed numbers.old i) }
+    requires narrow { is_within (2 ^ 24) k.now ≡ true }
+    ensures { (i : ℕ) → listed numbers.new i ≡ listed numbers.old i -ℤ (k.now *ℤ part lin.now i) }
+{
+    for i in 0..lin.width() + 1 {
+        numbers[i] = less(&numbers[i], k, lin, i);
     }
-    sum
 }
 
-/// The number of the normal form of a term at a place.
-pub fn normal_at(equations: &[Equation], t: &Lin, i: usize) -> i128
-    requires { length equations.now ≤ 512 }
-    ensures value { result ≡ normal (rows_of equations.now) (part t.now) i }
-    ensures size { IsSize (2 ^ 124) result }
+/// Takes from an array what an equation takes of a term, so that its pivot goes. Where the term lacks the pivot,
+/// that is nothing, and no place is looked at.
+fn take_share(numbers: &mut [i128], t: &Lin, equation: &Equation)
+    requires whole { length numbers.old ≡ 513 }
+    requires size { (i : ℕ) → IsSize (2 ^ 124) (listed numbers.old i) }
+    ensures { (i : ℕ) → listed numbers.new i ≡ listed numbers.old i -ℤ (coefficient t.now equation.now.sym.0 *ℤ part equation.now.lin i) }
 {
-    t.part(i) - taken_at(equations, t, i)
+    let k = t.coefficient(equation.sym);
+    if k != 0 {
+        take(numbers, &k, &equation.lin);
+    }
 }
 
 /// Writes the normal form of a term into an array.
@@ -52,18 +78,9 @@ pub fn fill(equations: &[Equation], t: &Lin, numbers: &mut [i128])
     ensures value { listed numbers.new ≡ normal (rows_of equations.now) (part t.now) }
     ensures size { (i : ℕ) → IsSize (2 ^ 124) (listed numbers.new i) }
 {
-    let _width = t.width();
-    fill_places(equations, t, numbers);
-}
-
-/// Writes the normal form of a term into an array, place by place.
-fn fill_places(equations: &[Equation], t: &Lin, numbers: &mut [i128])
-    requires { length equations.now ≤ 512 }
-    ensures value { (i : ℕ) → i < length numbers.new → listed numbers.new i ≡ normal (rows_of equations.now) (part t.now) i }
-    ensures size { (i : ℕ) → i < length numbers.new → IsSize (2 ^ 124) (listed numbers.new i) }
-{
-    for i in 0..numbers.len() {
-        numbers[i] = normal_at(equations, t, i);
+    write_parts(t, numbers);
+    for equation in equations {
+        take_share(numbers, t, equation);
     }
 }
 

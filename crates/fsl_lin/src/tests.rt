@@ -59,3 +59,41 @@ fn equations_are_reduced(rt: HostRuntime) {
         "s0 - 2 s1"
     );
 }
+
+/// A term loses the pivots that it has, and the equations of other pivots leave it as it is.
+#[test]
+fn equations_without_the_pivot_take_nothing(rt: HostRuntime) {
+    let alloc = rt.alloc();
+    let s0 = Lin::symbol(alloc, Sym(0)).expect(&rt, "memory");
+    let s1 = Lin::symbol(alloc, Sym(1)).expect(&rt, "memory");
+    let s2 = Lin::symbol(alloc, Sym(2)).expect(&rt, "memory");
+    let two = Lin::constant(alloc, 2).expect(&rt, "memory");
+    let five = Lin::constant(alloc, 5).expect(&rt, "memory");
+    let first = s1.sub(alloc, &two).expect(&rt, "memory");
+    let second = s2.sub(alloc, &s0).expect(&rt, "memory");
+    let second = second.sub(alloc, &five).expect(&rt, "memory");
+    let mut eqs = Eqs::new(alloc);
+    assert!(rt;
+        eqs.assume(alloc, &first) == Ok(Took::Pivot { sym: Sym(1) }),
+        "s1 - 2"
+    );
+    assert!(rt;
+        eqs.assume(alloc, &second) == Ok(Took::Pivot { sym: Sym(2) }),
+        "s2 - s0 - 5"
+    );
+    let opposite = s2.scale(alloc, -3).expect(&rt, "memory");
+    let normal = eqs.nf(alloc, &opposite).expect(&rt, "memory");
+    assert_eq!(rt; normal.width(), 1, "s0 alone");
+    assert_eq!(rt; normal.coefficient(Sym(0)), -3, "- 3 s0");
+    assert_eq!(rt; normal.rest(), -15, "- 15, and nothing of s1");
+    let mut numbers = [7i128; PLACES];
+    eqs.fill(&opposite, &mut numbers);
+    assert!(rt;
+        numbers[0] == -15 && numbers[1] == -3,
+        "the same in an array"
+    );
+    assert!(rt;
+        numbers[3] == 0 && numbers[512] == 0,
+        "no pivot, and 0 behind it"
+    );
+}
