@@ -1,8 +1,8 @@
 -- The two ends of a difference.
-use Rattle.std.proofs.Common.{◌≡◌, ℕ, zero, suc, ◌≤◌, Bool, true, false, cond, ◌&&◌, eqb, not, inl, inr, List, ℤ, pos, negsuc, neg_ℤ, Option, Some, None, IfSome, refl, ap, sym, subst, ◌∙◌, arith}
+use Rattle.std.proofs.Common.{ℕ, zero, suc, ◌≤◌, Bool, true, false, cond, ◌&&◌, eqb, List, ℤ, pos, negsuc, neg_ℤ, Option, Some, None, IfSome, subst, arith}
 use Rattle.std.specs.Ordering.{int_eq}
 use Rattle.fsl_lin.specs.declared.edge.Edge.{Edge}
-use Rattle.fsl_lin.specs.Numbers.{Numbers, most, listed, none, same_above, is_constant}
+use Rattle.fsl_lin.specs.Numbers.{Numbers, most, listed}
 use Rattle.fsl_lin.specs.Facts.{end_at, ends, edge_from, edge_of}
 use Rattle.fsl_lin.proofs.Arrays.{most_is}
 

@@ -1,5 +1,5 @@
 -- What is proved follows from the facts.
-use Rattle.std.proofs.Common.{◌≡◌, ℕ, suc, Bool, true, false, not, ◌&&◌, ◌||◌, inl, inr, List, [], ◌∷◌, Option, Some, None, ℤ, pos, ◌+ℤ◌, ◌-ℤ◌, ◌≤ℤ◌, neg_ℤ, int_le, int_lt, refl, sym, subst, ◌∙◌, arith}
+use Rattle.std.proofs.Common.{◌≡◌, suc, Bool, true, false, not, ◌&&◌, ◌||◌, inl, inr, List, [], ◌∷◌, Option, Some, None, ℤ, pos, ◌+ℤ◌, ◌-ℤ◌, ◌≤ℤ◌, neg_ℤ, int_le, int_lt, refl, sym, subst, ◌∙◌, arith}
 use Rattle.std.specs.Ordering.{int_eq}
 use Rattle.std.proofs.lemmas.Int.{ints}
 use Rattle.std.proofs.lemmas.Bool.{and_parts, or_cases}
@@ -14,7 +14,7 @@ use Rattle.fsl_lin.specs.Values.{value_of, AllHold, Follows}
 use Rattle.fsl_lin.specs.Facts.{rows, kept, edges, edge_of, by_constant, by_bound, walks, proves_normal, proves_le, proves_is, is_zero, refuted_bound, refuted_equation, absurd_facts}
 use Rattle.fsl_pure.proofs.Proving.{equal}
 use Rattle.fsl_pure.proofs.Sound.{AllAtMost, value_normal, value_opposite, value_gapped, rows_hold, kept_hold, constant_value, bound_value}
-use Rattle.fsl_pure.proofs.Walked.{EdgesHold, edges_hold, edges_feasible, walk_value}
+use Rattle.fsl_pure.proofs.Walked.{edges_hold, edges_feasible, walk_value}
 
 line_constant : (x n : ℤ) → x ≡ n → int_le n (pos 0) ≡ true → x ≤ℤ pos 0
 line_constant x n h k = let l : n ≤ℤ pos 0 = grind (arith, ints) in omega (arith, ints)

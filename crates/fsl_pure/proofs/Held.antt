@@ -1,5 +1,5 @@
 -- What is held after one more fact.
-use Rattle.std.proofs.Common.{◌≡◌, ℕ, zero, suc, ◌-◌, ◌<◌, ◌≤◌, ◌^◌, Bool, true, false, cond, not, ◌&&◌, ◌||◌, inl, inr, List, [], ◌∷◌, ◌++◌, map, reverse, Option, Some, None, ℤ, pos, refl, ap, sym, subst, ◌∙◌, arith}
+use Rattle.std.proofs.Common.{◌≡◌, ℕ, zero, suc, ◌-◌, ◌<◌, ◌≤◌, Bool, true, false, cond, not, ◌&&◌, ◌||◌, inl, inr, List, [], ◌∷◌, ◌++◌, map, reverse, Option, Some, None, pos, refl, ap, sym, subst, ◌∙◌, arith}
 use Rattle.std.specs.Ordering.{int_eq}
 use Rattle.std.proofs.lemmas.Bool.{and_parts, and_from, and_right, or_parts, cases_eq, false_from_ne_true}
 use Rattle.std.proofs.lemmas.List.{reverse-append}
@@ -10,11 +10,11 @@ use Rattle.fsl_lin.specs.declared.sym.Sym.{Sym}
 use Rattle.fsl_lin.specs.declared.took.Took.{Took}
 use Rattle.fsl_lin.specs.declared.took.Took.TheVariants.{Pivot, Trivial, Absurd, NoPivot}
 use Rattle.fsl_lin.specs.Combination.{Combination}
-use Rattle.fsl_lin.specs.Numbers.{Numbers, most, part, none, opposite, same_above, is_constant, fits}
+use Rattle.fsl_lin.specs.Numbers.{Numbers, most, part, none, opposite, same_above, is_constant}
 use Rattle.fsl_lin.specs.Rows.{Row, IsReduced, normal, is_unit, pivot_below, turned, without, extended, assumed, took_of, took, rows_fit}
 use Rattle.fsl_lin.specs.Equations.{rows_of}
 use Rattle.fsl_lin.specs.Facts.{rows, bounds, two_bounds, kept, refuted_equation, all_fit, facts_fit, is_zero, proves_normal, proves_is}
-use Rattle.fsl_lin.proofs.Pivots.{IsPivot, pivot_is, reduced_extended}
+use Rattle.fsl_lin.proofs.Pivots.{pivot_is, reduced_extended}
 use Rattle.fsl_pure.specs.Table.{some_have}
 use Rattle.fsl_pure.specs.Known.{IsHeld, kept_next, Leaves, is_absurd}
 use Rattle.fsl_pure.proofs.Linear.{normal_after, normal_twice, normal_opposite, without_none}

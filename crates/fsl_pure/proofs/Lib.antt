@@ -1,5 +1,7 @@
+pub mod Between
 pub mod Ends
 pub mod Follows
+pub mod Free
 pub mod Gaps
 pub mod Held
 pub mod InPlace

@@ -1,5 +1,5 @@
 -- Normal forms of differences and opposites, and what one more equation makes of normal forms.
-use Rattle.std.proofs.Common.{◌≡◌, ℕ, zero, suc, true, false, Bool, not, ◌||◌, List, [], ◌∷◌, map, Option, Some, None, ℤ, pos, ◌+ℤ◌, ◌-ℤ◌, ◌*ℤ◌, neg_ℤ, refl, sym, ap, subst, ◌∙◌, arith}
+use Rattle.std.proofs.Common.{◌≡◌, ℕ, zero, suc, List, [], ◌∷◌, ℤ, pos, ◌+ℤ◌, ◌-ℤ◌, ◌*ℤ◌, neg_ℤ, refl, ap, ◌∙◌, arith}
 use Rattle.std.proofs.Math.IntN.{zero-*ℤ}
 use Rattle.std.proofs.lemmas.Int.{ints}
 use Rattle.fsl_lin.specs.declared.equation.Equation.{Equation}
@@ -84,8 +84,15 @@ taken_zero : (rs : List Row) (t : Numbers) (i : ℕ) → AtPivots (λ p. t p ≡
 taken_zero [] t i h = refl
 taken_zero (r ∷ rs) t i h = line_sum_zero _ _ (ap (λ (z : ℤ). z *ℤ r.numbers i) h.0 ∙ zero-*ℤ (r.numbers i)) (taken_zero rs t i h.1)
 
+free_at : (rs : List Row) (t : Numbers) (i : ℕ) → AtPivots (λ p. t p ≡ pos 0) rs → normal rs t i ≡ t i
+free_at rs t i h = line_less_zero (t i) _ (taken_zero rs t i h)
+
+-- without pivots a term is its own normal form
+pub normal_free : (rs : List Row) (t : Numbers) → AtPivots (λ p. t p ≡ pos 0) rs → normal rs t ≡ t
+normal_free rs t h = λ j i. free_at rs t i h j
+
 twice_at : (rs : List Row) (t : Numbers) (i : ℕ) → IsReduced rs → normal rs (normal rs t) i ≡ normal rs t i
-twice_at rs t i h = line_less_zero (normal rs t i) _ (taken_zero rs (normal rs t) i (normal_is_normal rs t h).free)
+twice_at rs t i h = free_at rs (normal rs t) i (normal_is_normal rs t h).free
 
 -- a normal form is its own
 pub normal_twice : (rs : List Row) (t : Numbers) → IsReduced rs → normal rs (normal rs t) ≡ normal rs t

@@ -1,10 +1,10 @@
 -- The tests by which a bound is proved: a difference is proved by a walk or not at all, and anything else by
 -- a constant or one bound.
-use Rattle.std.proofs.Common.{◌≡◌, ℕ, zero, suc, Bool, true, false, cond, not, ◌&&◌, ◌||◌, eqb, inl, inr, List, [], ◌∷◌, Option, Some, None, ℤ, pos, negsuc, neg_ℤ, int_le, int_lt, ◌≤ℤ◌, refl, ap, sym, ◌∙◌, arith}
+use Rattle.std.proofs.Common.{◌≡◌, ℕ, zero, suc, Bool, true, false, cond, not, ◌&&◌, ◌||◌, eqb, inl, inr, List, [], ◌∷◌, Option, Some, None, ℤ, pos, neg_ℤ, int_le, int_lt, ◌≤ℤ◌, refl, ap, sym, ◌∙◌, arith}
 use Rattle.std.specs.List.{Contains}
 use Rattle.std.specs.Ordering.{int_eq}
 use Rattle.std.proofs.lemmas.Int.{ints}
-use Rattle.std.proofs.lemmas.Bool.{and_parts, and_left, or_parts, or_cases, or_left, or_right, not-true, not_from_true, cond-true, true_from_ne_false, false_from_ne_true}
+use Rattle.std.proofs.lemmas.Bool.{and_parts, or_parts, or_cases, cond-true, true_from_ne_false, false_from_ne_true}
 use Rattle.std.proofs.lemmas.Bool.Decides.{Decides-int_eq}
 use Rattle.std.proofs.lemmas.List.Elements.{Contains-append_right}
 use Rattle.fsl_lin.specs.declared.edge.Edge.{Edge}
@@ -27,7 +27,7 @@ ends_none (suc k) n h =
     let p = and_parts (int_eq (n (suc k)) (pos 0)) (same_above k n none) h in
     ap (end_at (n (suc k)) (suc k)) (ends_none k n p.1) ∙ end_none (n (suc k)) (suc k) p.0
 
-constant_no_edge : (n : Numbers) → is_constant n ≡ true → edge_of n ≡ None
+pub constant_no_edge : (n : Numbers) → is_constant n ≡ true → edge_of n ≡ None
 constant_no_edge n h = ap (edge_from (n 0)) (ends_none most n h)
 
 pub edge_no_constant : (n : Numbers) (e : Edge) → edge_of n ≡ Some e → is_constant n ≡ false

@@ -1,15 +1,14 @@
 -- What is proved holds under every valuation that satisfies the facts, and absurd facts have none.
-use Rattle.std.proofs.Common.{◌≡◌, ℕ, zero, suc, ◌<◌, ◌≤◌, Bool, true, false, cond, not, ◌&&◌, ◌||◌, eqb, inl, inr, List, [], ◌∷◌, map, Option, Some, None, ℤ, pos, negsuc, ◌+ℤ◌, ◌-ℤ◌, ◌*ℤ◌, ◌≤ℤ◌, ◌<ℤ◌, neg_ℤ, int_le, int_lt, refl, ap, sym, subst, ◌∙◌, arith}
+use Rattle.std.proofs.Common.{◌≡◌, ℕ, zero, suc, Bool, true, false, List, [], ◌∷◌, map, Option, Some, None, ℤ, pos, ◌+ℤ◌, ◌-ℤ◌, ◌*ℤ◌, ◌≤ℤ◌, neg_ℤ, refl, ap, sym, subst, ◌∙◌, arith}
 use Rattle.std.specs.Ordering.{int_eq}
 use Rattle.std.proofs.Math.IntN.{*ℤ_comm, zero-*ℤ}
 use Rattle.std.proofs.lemmas.Int.{ints}
-use Rattle.std.proofs.lemmas.Bool.{and_parts, and_cases, or_cases, cases_Bool, eqb-true, not-true}
-use Rattle.fsl_lin.specs.declared.edge.Edge.{Edge}
+use Rattle.std.proofs.lemmas.Bool.{and_parts}
 use Rattle.fsl_lin.specs.declared.fact.Fact.{Fact}
 use Rattle.fsl_lin.specs.declared.fact.Fact.TheVariants.{Le, Is}
 use Rattle.fsl_lin.specs.Numbers.{Numbers, most, part, none, opposite, gapped, same_above, is_constant}
-use Rattle.fsl_lin.specs.Rows.{Row, taken, normal, pivot_below, turned, without, all_without, extended, assumed}
-use Rattle.fsl_lin.specs.Values.{value, value_of, Holds, AllHold, Satisfies}
+use Rattle.fsl_lin.specs.Rows.{Row, taken, normal, pivot_below, turned, all_without, extended}
+use Rattle.fsl_lin.specs.Values.{value, value_of, AllHold, Satisfies}
 use Rattle.fsl_lin.specs.Facts.{rows, bounds, two_bounds, kept}
 use Rattle.fsl_lin.proofs.Ring.{distribute, distribute_minus, times_neg, times_one, associate}
 use Rattle.fsl_pure.proofs.Proving.{equal}

@@ -1,6 +1,6 @@
 -- What one more bound makes of a table.
-use Rattle.std.proofs.Common.{◌≡◌, ℕ, ◌+◌, ◌<◌, Bool, true, false, not, ◌&&◌, ◌||◌, List, [], ◌∷◌, ◌++◌, length, get_or, take, map, reverse, Option, Some, None, ℤ, pos, int_lt, refl, ap, sym, subst, ◌∙◌}
-use Rattle.std.proofs.lemmas.Bool.{and_from, and_left, or_parts, or_right, true_from_ne_false, cases_Bool}
+use Rattle.std.proofs.Common.{◌≡◌, ℕ, ◌+◌, ◌<◌, Bool, true, false, not, ◌&&◌, ◌||◌, List, [], ◌∷◌, ◌++◌, length, get_or, take, map, reverse, Option, Some, None, pos, int_lt, refl, ap, sym, ◌∙◌}
+use Rattle.std.proofs.lemmas.Bool.{and_from, and_left, or_parts}
 use Rattle.std.proofs.lemmas.List.{reverse-append, take_more}
 use Rattle.fsl_lin.specs.declared.edge.Edge.{Edge}
 use Rattle.fsl_lin.specs.Combination.{Combination}

@@ -1,9 +1,9 @@
 -- Walks of difference bounds say what they seem to under every valuation that satisfies the bounds.
-use Rattle.std.proofs.Common.{◌≡◌, ℕ, zero, suc, Bool, true, false, cond, not, ◌&&◌, eqb, inl, inr, List, [], ◌∷◌, Option, Some, None, ℤ, pos, negsuc, ◌+ℤ◌, ◌-ℤ◌, ◌*ℤ◌, ◌≤ℤ◌, neg_ℤ, int_le, int_lt, refl, ap, sym, subst, ◌∙◌, arith}
+use Rattle.std.proofs.Common.{◌≡◌, ℕ, zero, suc, Bool, true, false, cond, not, ◌&&◌, eqb, inl, inr, List, [], ◌∷◌, Option, Some, None, ℤ, pos, negsuc, ◌+ℤ◌, ◌-ℤ◌, ◌*ℤ◌, ◌≤ℤ◌, neg_ℤ, int_lt, refl, ap, sym, subst, ◌∙◌, arith}
 use Rattle.std.specs.Ordering.{int_eq}
 use Rattle.std.proofs.Math.IntN.{zero-*ℤ}
 use Rattle.std.proofs.lemmas.Int.{ints}
-use Rattle.std.proofs.lemmas.Bool.{and_parts, and_cases, cases_Bool, eqb-true, true_from_ne_false}
+use Rattle.std.proofs.lemmas.Bool.{and_cases, eqb-true, true_from_ne_false}
 use Rattle.fsl_lin.specs.declared.edge.Edge.{Edge}
 use Rattle.fsl_lin.specs.Numbers.{Numbers, most}
 use Rattle.fsl_lin.specs.Walks.{least, through, is_below, closes, feasible}

@@ -1,3 +1,4 @@
 pub mod Faults
 pub mod Known
+pub mod Nodes
 pub mod Table

@@ -1,5 +1,5 @@
 -- Bounds in normal form, and a table of the difference bounds among them.
-use Rattle.std.specs.Prelude.{◌≡◌, ℕ, Bool, true, false, not, ◌&&◌, ◌||◌, List, [], ◌∷◌, ℤ, pos, int_lt}
+use Rattle.std.specs.Prelude.{◌≡◌, ℕ, Bool, true, false, not, ◌&&◌, ◌||◌, List, [], ◌∷◌, pos, int_lt}
 use Rattle.std.specs.Ordering.{int_eq}
 use Rattle.fsl_lin.specs.declared.edge.Edge.{Edge}
 use Rattle.fsl_lin.specs.Numbers.{Numbers, is_constant}

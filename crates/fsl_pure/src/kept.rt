@@ -4,7 +4,8 @@ ghost use Rattle.fsl_lin.specs.Combination.{Combination};
 ghost use Rattle.fsl_lin.specs.Numbers.{part, listed, fits};
 ghost use Rattle.fsl_lin.specs.Rows.{normal};
 ghost use Rattle.fsl_lin.specs.Equations.{rows_of};
-ghost use Rattle.fsl_lin.specs.Facts.{proves_normal, by_bound, by_constant, all_fit};
+ghost use Rattle.fsl_lin.specs.Facts.{proves_normal, by_bound, by_constant, all_fit, at_most, edges};
+ghost use Rattle.fsl_lin.specs.Walks.{least};
 ghost use Rattle.fsl_lin.specs.Sizes.{IsSize};
 ghost use Rattle.fsl_pure.specs.Table.{contradict, some_have};
 
@@ -13,7 +14,7 @@ use crate::difference::edge_of;
 use crate::sharing::{Shared, push, share_each};
 use crate::table::{lay_unless, walks};
 use fsl_bounds::Bounds;
-use fsl_lin::{Eqs, Lin, LinFault, PLACES, Sym};
+use fsl_lin::{Edge, Eqs, Lin, LinFault, PLACES, Sym};
 use std::alloc::{AllocError, Global};
 use std::marker::Model;
 
@@ -113,6 +114,14 @@ impl Kept {
             Some(edge) => walks(&self.table, &edge),
             None => by_constant(numbers) || by_bound(self.bounds.as_slice(), numbers),
         }
+    }
+
+    /// Whether some walk along the difference bounds has at most an edge's bound as its total.
+    pub fn walks(&self, edge: &Edge) -> bool
+        requires { contradict (map part self.now) ≡ false }
+        ensures { result ≡ at_most (least (edges (map part self.now)) edge.now.from edge.now.to) edge.now.bound }
+    {
+        walks(&self.table, edge)
     }
 
     /// The bounds in normal form by other equations.

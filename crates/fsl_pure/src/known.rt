@@ -13,6 +13,8 @@ use crate::equated::kept_after;
 use crate::fault::PureFault;
 use crate::kept::Kept;
 use crate::next::Next;
+use crate::nodes::{edge_between, nodes};
+use crate::reduced::Reduced;
 use crate::sharing::{Shared, push, share_each};
 use crate::sums::{difference, is_zero, negate};
 use fsl_base::TryClone;
@@ -28,7 +30,7 @@ const MAX_SYMBOLS: u32 = 512;
 pub struct Known {
     facts: Vec<Shared<Fact>>,
     symbols: u32,
-    eqs: Eqs,
+    eqs: Reduced,
     kept: Kept,
     unequal: bool,
 }
@@ -52,7 +54,7 @@ impl Known {
         Ok(Known {
             facts: Vec::new(alloc),
             symbols: 0,
-            eqs: Eqs::new(alloc),
+            eqs: Reduced::new(alloc),
             kept: Kept::new(alloc)?,
             unequal: false,
         })
@@ -79,7 +81,7 @@ impl Known {
     pub fn eqs(&self) -> &Eqs
         ensures { rows_of result.now ≡ rows self.now.facts }
     {
-        &self.eqs
+        self.eqs.get()
     }
 
     /// Assumes `t <= 0`.
@@ -97,7 +99,7 @@ impl Known {
             },
         )?;
         self.facts.reserve(1)?;
-        match self.kept.add_term(alloc, &self.eqs, t) {
+        match self.kept.add_term(alloc, self.eqs.get(), t) {
             Ok(()) => {
                 self.kept.fit();
                 push(&mut self.facts, fact);
@@ -114,7 +116,7 @@ impl Known {
     {
         let mut eqs = self.eqs.try_clone(alloc)?;
         match eqs.assume(alloc, t) {
-            Ok(took) => match kept_after(alloc, &self.kept, &eqs, t, took) {
+            Ok(took) => match kept_after(alloc, &self.kept, eqs.get(), t, took) {
                 Ok(kept) => {
                     kept.fit();
                     Ok(Next {
@@ -155,24 +157,48 @@ impl Known {
         Ok(())
     }
 
-    /// Whether `a - b + gap <= 0` is proved.
+    /// Whether `a - b + gap <= 0` is proved. Where the difference is an edge it is one look into the table.
     pub fn proves_le(&self, a: &Lin, b: &Lin, gap: &i128) -> bool
         requires clear { absurd_facts self.now.facts ≡ false }
         requires size { IsSize (2 ^ 90) gap.now }
         ensures { result ≡ proves_le self.now.facts (gapped (part a.now) (part b.now) gap.now) }
     {
+        match nodes(&self.eqs, a, b) {
+            Some((x, y)) => self.kept.walks(&edge_between(x, y, a, b, gap)),
+            None => self.proves_by_numbers(a, b, gap),
+        }
+    }
+
+    /// The same for any two terms, by all numbers of the normal form.
+    fn proves_by_numbers(&self, a: &Lin, b: &Lin, gap: &i128) -> bool
+        requires clear { absurd_facts self.now.facts ≡ false }
+        requires size { IsSize (2 ^ 90) gap.now }
+        ensures { result ≡ proves_le self.now.facts (gapped (part a.now) (part b.now) gap.now) }
+    {
         let mut numbers = [0i128; PLACES];
-        difference(&self.eqs, a, b, gap, &mut numbers);
+        difference(self.eqs.get(), a, b, gap, &mut numbers);
         self.kept.proves(&numbers)
     }
 
-    /// Whether `a - b = 0` is proved.
+    /// Whether `a - b = 0` is proved. Where the difference is an edge it is two looks into the table.
     pub fn proves_eq(&self, a: &Lin, b: &Lin) -> bool
         requires { absurd_facts self.now.facts ≡ false }
         ensures { result ≡ proves_is self.now.facts (gapped (part a.now) (part b.now) (pos 0)) }
     {
+        match nodes(&self.eqs, a, b) {
+            Some((x, y)) => self.kept.walks(&edge_between(x, y, a, b, &0))
+                && self.kept.walks(&edge_between(y, x, b, a, &0)),
+            None => self.equal_by_numbers(a, b),
+        }
+    }
+
+    /// The same for any two terms, by all numbers of the normal form.
+    fn equal_by_numbers(&self, a: &Lin, b: &Lin) -> bool
+        requires { absurd_facts self.now.facts ≡ false }
+        ensures { result ≡ proves_is self.now.facts (gapped (part a.now) (part b.now) (pos 0)) }
+    {
         let mut numbers = [0i128; PLACES];
-        difference(&self.eqs, a, b, &0, &mut numbers);
+        difference(self.eqs.get(), a, b, &0, &mut numbers);
         is_zero(&numbers) || self.kept.proves(&numbers) && self.proves_opposite(&mut numbers)
     }
 

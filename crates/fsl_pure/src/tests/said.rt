@@ -120,6 +120,21 @@ pub fn proved(alloc: Global, pure: &Pure, text: &str) -> Option<bool> {
     }
 }
 
+/// The same of the two sides as they stand, where `proved` asks of their difference and 0.
+fn proved_of_sides(alloc: Global, pure: &Pure, text: &str) -> Option<bool> {
+    let (left, right) = text.split_once('=')?;
+    let said = Said::read(left);
+    let a = said.term(alloc).ok()?;
+    let b = term(alloc, right).ok()?;
+    if pure.absurd() {
+        None
+    } else if said.equal {
+        Some(pure.proves_eq(&a, &b))
+    } else {
+        Some(pure.proves_le(&a, &b, 0))
+    }
+}
+
 /// The facts of a text, with `;` between them.
 pub fn facts(alloc: Global, text: &str) -> Option<Pure> {
     let mut pure = Pure::new(alloc).ok()?;
@@ -131,10 +146,12 @@ pub fn facts(alloc: Global, text: &str) -> Option<Pure> {
     Some(pure)
 }
 
-/// Whether each of the questions of a text has this answer.
+/// Whether each of the questions of a text has this answer, asked in both ways.
 pub fn all(alloc: Global, pure: &Pure, questions: &str, answer: bool) -> bool {
     for question in questions.split(';') {
-        if proved(alloc, pure, question) != Some(answer) {
+        if proved(alloc, pure, question) != Some(answer)
+            || proved_of_sides(alloc, pure, question) != Some(answer)
+        {
             return false;
         }
     }

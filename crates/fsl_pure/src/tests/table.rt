@@ -2,7 +2,7 @@
 use super::said::{all, facts};
 
 /// Fact sets, what they prove, and what they don't, though some of it is true.
-const ROWS: [(&str, &str, &str); 34] = [
+const ROWS: [(&str, &str, &str); 39] = [
     // a constant, or one bound with the same coefficients
     (
         "0 = 0",
@@ -43,6 +43,24 @@ const ROWS: [(&str, &str, &str); 34] = [
         "a <= c + 2",
     ),
     ("a <= b", "a <= b + 1", "b <= a + 1000000; a <= 1000000"),
+    // two symbols: nothing known, one bound, two bounds, an equation, and bounds beside a pivot
+    ("0 = 0", "a = a; a <= a", "a = b; a <= b; b <= a"),
+    ("a <= b", "a <= b", "a = b; b = a; b <= a"),
+    (
+        "a <= b; b <= a",
+        "a = b; b = a; a + 2 = b + 2",
+        "a = b + 1; b = c",
+    ),
+    (
+        "a = b",
+        "a = b; b = a; a <= b; b + 1 = a + 1",
+        "a + 1 <= b; a = c; b = c",
+    ),
+    (
+        "b = a; a <= c; c <= a",
+        "a = c; b = c; c = b",
+        "a = d; b = d; d <= b",
+    ),
     // equations with a pivot, and what they make of bounds
     (
         "b = a + 1",

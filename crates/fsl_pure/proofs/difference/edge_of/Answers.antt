@@ -1,4 +1,3 @@
-use Rattle.std.proofs.Common.{◌∙◌}
 use Rattle.fsl_pure.proofs.Ends.{edge_within}
 use Rattle.fsl_pure.proofs.difference.edge_of.Goals as goal
 

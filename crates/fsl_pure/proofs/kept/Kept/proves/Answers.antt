@@ -2,7 +2,7 @@ use Rattle.std.proofs.Common.{◌≡◌, List, false, map, reverse, ap, sym, sub
 use Rattle.fsl_lin.specs.Combination.{Combination}
 use Rattle.fsl_lin.specs.Numbers.{part, listed}
 use Rattle.fsl_lin.specs.Walks.{least}
-use Rattle.fsl_lin.specs.Facts.{at_most, by_constant, by_bound}
+use Rattle.fsl_lin.specs.Facts.{at_most, by_constant}
 use Rattle.fsl_bounds.specs.Marks.{Marked}
 use Rattle.fsl_pure.specs.Table.{contradict}
 use Rattle.fsl_pure.proofs.Proving.{difference_proved, other_proved, first_false}

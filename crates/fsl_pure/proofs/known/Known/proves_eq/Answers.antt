@@ -1,31 +1,28 @@
-use Rattle.std.proofs.Common.{◌≡◌, List, pos, reverse, ap, sym, subst, ◌∙◌}
-use Rattle.fsl_lin.specs.Numbers.{Numbers, part, listed, gapped, opposite}
-use Rattle.fsl_lin.specs.Rows.{Row, normal}
-use Rattle.fsl_lin.specs.Facts.{rows, kept, is_zero, proves_normal}
+use Rattle.std.proofs.Common.{◌≡◌, List, false, reverse, sym, subst, ◌∙◌}
+use Rattle.fsl_lin.specs.declared.edge.Edge.{Edge}
+use Rattle.fsl_lin.specs.Rows.{Row}
+use Rattle.fsl_lin.specs.Walks.{least}
+use Rattle.fsl_lin.specs.Facts.{at_most, edges, absurd_facts}
+use Rattle.fsl_pure.specs.Nodes.{AreNodes}
 use Rattle.fsl_pure.specs.Known.{Assumed}
-use Rattle.fsl_pure.proofs.Held.{proves_is_by, by_zero, not_first, by_both}
+use Rattle.fsl_pure.proofs.Between.{nodes_equal, both_there, both_not}
 use Rattle.fsl_pure.proofs.known.Known.proves_eq.Goals as goal
 
-pub returns-then-is_zero : goal.returns-then-is_zero
-returns-then-is_zero c =
+pub returns-then-walks : goal.returns-then-walks
+returns-then-walks c =
     let held = c.self.invariant.held in
-    let numbers = c.difference.ensures.value ∙ ap (λ (rs : List Row). normal rs (gapped (part c.args.a.now) (part c.args.b.now) (pos 0))) held.equations in
-    rw (← c.self.view_is) (c.is_zero.ensures ∙ by_zero _ _ (sym c.is_zero.ensures ∙ c.if-is_zero.true) ∙ sym (proves_is_by (reverse c.self.inside.facts.items) (gapped (part c.args.a.now) (part c.args.b.now) (pos 0)) _ numbers))
+    let clear = subst (λ (a : Assumed). absurd_facts a.facts ≡ false) (sym c.self.view_is) c.requires in
+    let are = subst (λ (rs : List Row). AreNodes rs c.in-Some.x c.in-Some.y c.args.a.now c.args.b.now) held.equations c.in-Some.ensures in
+    let there = c.walks.ensures ∙ (λ i. let e : Edge = c.edge_between.ensures i in at_most (least (edges (held.normal i)) e.from e.to) e.bound) in
+    let back = c.walks-then-walks.ensures ∙ (λ i. let e : Edge = c.edge_between-then-walks.ensures i in at_most (least (edges (held.normal i)) e.from e.to) e.bound) in
+    rw (← c.self.view_is) (back ∙ both_there _ _ (sym there ∙ c.if-walks.true)
+    ∙ sym (nodes_equal (reverse c.self.inside.facts.items) c.in-Some.x c.in-Some.y c.args.a.now c.args.b.now clear are))
 
-pub returns-else-proves : goal.returns-else-proves
-returns-else-proves c =
+pub returns-else-walks : goal.returns-else-walks
+returns-else-walks c =
     let held = c.self.invariant.held in
-    let numbers = c.difference.ensures.value ∙ ap (λ (rs : List Row). normal rs (gapped (part c.args.a.now) (part c.args.b.now) (pos 0))) held.equations in
-    let first = c.proves.ensures ∙ ap (λ (ns : List Numbers). proves_normal ns (listed c.difference.new.numbers)) held.normal in
-    rw (← c.self.view_is)
-    (first ∙ not_first _ _ _ (sym c.is_zero.ensures ∙ c.if-is_zero.false) (sym first ∙ c.if-proves.false) ∙ sym (proves_is_by (reverse c.self.inside.facts.items) (gapped (part c.args.a.now) (part c.args.b.now) (pos 0)) _ numbers))
-
-pub returns-then-proves : goal.returns-then-proves
-returns-then-proves c =
-    let held = c.self.invariant.held in
-    let numbers = c.difference.ensures.value ∙ ap (λ (rs : List Row). normal rs (gapped (part c.args.a.now) (part c.args.b.now) (pos 0))) held.equations in
-    let first = c.proves.ensures ∙ ap (λ (ns : List Numbers). proves_normal ns (listed c.difference.new.numbers)) held.normal in
-    let second =
-    subst (λ (a : Assumed). c.proves_opposite.result ≡ proves_normal (kept a.facts) (opposite (listed c.difference.new.numbers))) (sym c.self.view_is) c.proves_opposite.ensures in
-    rw (← c.self.view_is)
-    (second ∙ by_both _ _ _ (sym c.is_zero.ensures ∙ c.if-is_zero.false) (sym first ∙ c.if-proves.true) ∙ sym (proves_is_by (reverse c.self.inside.facts.items) (gapped (part c.args.a.now) (part c.args.b.now) (pos 0)) _ numbers))
+    let clear = subst (λ (a : Assumed). absurd_facts a.facts ≡ false) (sym c.self.view_is) c.requires in
+    let are = subst (λ (rs : List Row). AreNodes rs c.in-Some.x c.in-Some.y c.args.a.now c.args.b.now) held.equations c.in-Some.ensures in
+    let there = c.walks.ensures ∙ (λ i. let e : Edge = c.edge_between.ensures i in at_most (least (edges (held.normal i)) e.from e.to) e.bound) in
+    rw (← c.self.view_is) (there ∙ both_not _ _ (sym there ∙ c.if-walks.false)
+    ∙ sym (nodes_equal (reverse c.self.inside.facts.items) c.in-Some.x c.in-Some.y c.args.a.now c.args.b.now clear are))
