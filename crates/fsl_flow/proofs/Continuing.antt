@@ -1,5 +1,5 @@
 -- What comes next on a path has the ends of the path.
-use Rattle.std.proofs.Common.{◌≡◌, ℕ, Bool, true, false, List, [], ◌∷◌, ◌++◌, refl, sym, ap, ◌∙◌, append-nil}
+use Rattle.std.proofs.Common.{◌≡◌, ℕ, Bool, true, false, List, [], ◌∷◌, ◌++◌, map, refl, sym, ap, ◌∙◌, append-nil}
 use Rattle.std.specs.List.{flat_map, list_all}
 use Rattle.std.proofs.lemmas.Bool.{and_parts}
 use Rattle.std.proofs.lemmas.Grind.{flat_map-append}
@@ -19,7 +19,8 @@ use Rattle.fsl_core.specs.logic.Deciding.{cond_of}
 use Rattle.fsl_core.specs.logic.Joining.{nought}
 use Rattle.fsl_core.specs.logic.Producing.{chosen}
 use Rattle.fsl_core.specs.logic.Assertions.{asrt_of}
-use Rattle.fsl_core.specs.logic.Calls.{finish}
+use Rattle.fsl_core.specs.logic.Calls.{finish, call, call_of, par}
+use Rattle.fsl_core.specs.logic.Locations.{setting_of}
 use Rattle.fsl_core.specs.logic.Slots.{past}
 use Rattle.fsl_core.specs.logic.Paths.{Ends, Meaning, each, block, act_step, stmt_step, stmt_of, return, give_inv, round, path_ends}
 use Rattle.fsl_flow.specs.declared.job.Job.{Job}
@@ -78,6 +79,10 @@ act_layer job stmt declared s left f h a b (Act-F.If cond c d) is e =
 act_layer job stmt declared s left f h a b (Act-F.While cond inv body) is e =
     sym (going_ends job stmt.span (give_inv (asrt_of inv) s) (within (in_loop stmt.span cond inv body declared) left))
 act_layer job stmt declared s left f h a b (Act-F.Return v) is e = sym (ending_ends job stmt.span (return (asrt_of job.proc.now.post) (expr_of v) s))
+act_layer job stmt declared s left f h a b (Act-F.Call slot proc args) is e =
+    sym (going_ends job stmt.span (call (setting_of asrt_of job.program.now) slot proc (map expr_of args) s) left)
+act_layer job stmt declared s left f h a b (Act-F.Par calls) is e =
+    sym (going_ends job stmt.span (par (setting_of asrt_of job.program.now) (map (call_of expr_of) calls) s) left)
 act_layer job stmt declared s left f h a b (Act-F.Set slot v) is e = simple_ends job stmt s left _ e
 act_layer job stmt declared s left f h a b (Act-F.AllocNa slot) is e = simple_ends job stmt s left _ e
 act_layer job stmt declared s left f h a b (Act-F.Load slot Na at) is e = simple_ends job stmt s left _ e

@@ -1,4 +1,5 @@
 pub mod Building
+pub mod Calling
 pub mod Continuing
 pub mod Contracting
 pub mod Ending
@@ -12,4 +13,5 @@ pub mod Stacking
 pub mod Stepping
 pub mod Straight
 pub mod Taking
+pub mod Threading
 pub mod Walking

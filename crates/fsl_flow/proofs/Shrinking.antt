@@ -17,7 +17,8 @@ use Rattle.fsl_core.specs.logic.Deciding.{cond_of}
 use Rattle.fsl_core.specs.logic.Joining.{nought}
 use Rattle.fsl_core.specs.logic.Producing.{chosen}
 use Rattle.fsl_core.specs.logic.Assertions.{asrt_of}
-use Rattle.fsl_core.specs.logic.Calls.{finish}
+use Rattle.fsl_core.specs.logic.Calls.{finish, call, call_of, par}
+use Rattle.fsl_core.specs.logic.Locations.{setting_of}
 use Rattle.fsl_core.specs.logic.Slots.{past}
 use Rattle.fsl_core.specs.logic.Paths.{return, give_inv, round}
 use Rattle.fsl_asrt.specs.Built as assertions
@@ -96,6 +97,12 @@ act_follows job stmt declared s left f h (Act-F.While cond inv body) is k =
 act_follows job stmt declared s left f h (Act-F.Return e) is k =
     items_follow (left_weight left + 0 + 2) stmt.span (return (asrt_of job.proc.now.post) (expr_of e) s) (λ x t. over (derived stmt.span)) (omega arith)
     (λ x t. record { lighter = omega arith; built = refl })
+act_follows job stmt declared s left f h (Act-F.Call slot proc args) is k =
+    items_follow (left_weight left + 0 + 2) stmt.span (call (setting_of asrt_of job.program.now) slot proc (map expr_of args) s) (λ x t. goes_on t left)
+    (omega arith) (λ x t. record { lighter = omega arith; built = k })
+act_follows job stmt declared s left f h (Act-F.Par calls) is k =
+    items_follow (left_weight left + 0 + 2) stmt.span (par (setting_of asrt_of job.program.now) (map (call_of expr_of) calls) s) (λ x t. goes_on t left)
+    (omega arith) (λ x t. record { lighter = omega arith; built = k })
 act_follows job stmt declared s left f h _ is k =
     items_follow (left_weight left + 0 + 2) stmt.span (action_of stmt.act s) (λ x t. goes_on t left) (omega arith)
     (λ x t. record { lighter = omega arith; built = k })

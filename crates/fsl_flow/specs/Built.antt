@@ -1,5 +1,5 @@
 -- Programs whose paths are followed so far: no invariants of atomic locations; statements that set, allocate, load,
--- store, assert and print, branches, loops and returns; assertions of facts, cells and choices.
+-- store, assert and print, calls, threads side by side, branches, loops and returns; assertions of facts, cells and choices.
 use Rattle.std.specs.Prelude.{Bool, true, false, ◌&&◌, List, map}
 use Rattle.std.specs.List.{list_all}
 use Rattle.fsl_core.specs.declared.act.Act.{Act}
@@ -20,6 +20,8 @@ built_step (Act-F.Set slot e) = true
 built_step (Act-F.AllocNa slot) = true
 built_step (Act-F.Load slot Na at) = true
 built_step (Act-F.Store Na at e) = true
+built_step (Act-F.Call slot proc args) = true
+built_step (Act-F.Par calls) = true
 built_step (Act-F.If cond a b) = all a && all b
 built_step (Act-F.While cond inv body) = assertions.is_built inv && all body
 built_step (Act-F.Assert cond) = true

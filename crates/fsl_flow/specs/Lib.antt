@@ -1,4 +1,5 @@
 pub mod Built
+pub mod Calls
 pub mod Next
 pub mod Owned
 pub mod Places

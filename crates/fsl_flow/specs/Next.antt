@@ -1,5 +1,5 @@
 -- What comes next on a path: its next statement by its rule, each branch with what is then left.
-use Rattle.std.specs.Prelude.{ℕ, Bool, false, List, [], ◌∷◌, ◌++◌}
+use Rattle.std.specs.Prelude.{ℕ, Bool, false, List, [], ◌∷◌, ◌++◌, map}
 use Rattle.fsl_base.specs.declared.span.Span.{Span}
 use Rattle.fsl_core.specs.declared.act.Act.{Act}
 use Rattle.fsl_core.specs.declared.act.Stmt.{Stmt}
@@ -14,7 +14,8 @@ use Rattle.fsl_core.specs.logic.Deciding.{cond_of}
 use Rattle.fsl_core.specs.logic.Joining.{nought}
 use Rattle.fsl_core.specs.logic.Producing.{chosen}
 use Rattle.fsl_core.specs.logic.Assertions.{asrt_of}
-use Rattle.fsl_core.specs.logic.Calls.{finish}
+use Rattle.fsl_core.specs.logic.Calls.{finish, call, call_of, par}
+use Rattle.fsl_core.specs.logic.Locations.{setting_of}
 use Rattle.fsl_core.specs.logic.Paths.{return, give_inv, round}
 use Rattle.fsl_core.specs.logic.Slots.{past}
 use Rattle.fsl_flow.specs.declared.job.Job.{Job}
@@ -44,6 +45,10 @@ next_act job stmt declared s left (Act-F.If cond a b) = goes_to_side stmt.span (
 next_act job stmt declared s left (Act-F.While cond inv body) =
     goes_to stmt.span (give_inv (asrt_of inv) s) (within (in_loop stmt.span cond inv body declared) left)
 next_act job stmt declared s left (Act-F.Return e) = ends_at stmt.span (return (asrt_of job.proc.now.post) (expr_of e) s)
+next_act job stmt declared s left (Act-F.Call slot proc args) =
+    goes_to stmt.span (call (setting_of asrt_of job.program.now) slot proc (map expr_of args) s) left
+next_act job stmt declared s left (Act-F.Par calls) =
+    goes_to stmt.span (par (setting_of asrt_of job.program.now) (map (call_of expr_of) calls) s) left
 next_act job stmt declared s left _ = goes_to stmt.span (action_of stmt.act s) left
 
 -- of a statement, given what is left behind it

@@ -29,7 +29,7 @@ pub fn failing(alloc: Global, kind: Kind) -> Result<List<Branch>, AllocError>
 }
 
 /// Branches whose environments are dropped.
-fn without_env(alloc: Global, bound: List<Bound>) -> Result<List<Branch>, AllocError>
+pub fn without_env(alloc: Global, bound: List<Bound>) -> Result<List<Branch>, AllocError>
     ensures { IfOk result (λ bs. branches bs ≡ followed (bounds bound) (λ _. done)) }
 {
     let mut out = List::new(alloc);
@@ -129,7 +129,7 @@ fn new_symbols(alloc: Global, state: State, params: u32) -> Result<Bound, AllocE
 
 /// An environment with a zero for each slot that is not set yet.
 #[tactic(auto, using(crate::proofs::Padding::padded_more, crate::proofs::Padding::padded_full))]
-fn padded(alloc: Global, env: Env, slots: u32) -> Result<Env, AllocError>
+pub fn padded(alloc: Global, env: Env, slots: u32) -> Result<Env, AllocError>
     ensures { IfOk result (λ all. all ≡ padded slots env) }
 {
     let mut all = env;

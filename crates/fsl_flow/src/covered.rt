@@ -16,6 +16,8 @@ fn is_built_act(act: &Act) -> bool
         Act::AllocNa { .. } => true,
         Act::Load { mode: Mode::Na, .. } => true,
         Act::Store { mode: Mode::Na, .. } => true,
+        Act::Call { .. } => true,
+        Act::Par { .. } => true,
         Act::If { yes, no, .. } => are_built(yes.as_slice()) && are_built(no.as_slice()),
         Act::While { inv, body, .. } => is_built(inv) && are_built(body.as_slice()),
         Act::Assert { .. } => true,

@@ -2,14 +2,18 @@
 #![tactic(auto)]
 
 mod accesses;
+mod calls;
 mod contract;
 mod covered;
 mod job;
 mod looping;
 mod next;
+mod par;
 mod paths;
 mod pending;
 mod rest;
+mod running;
+mod says;
 mod sets;
 mod statements;
 

@@ -1,14 +1,17 @@
 //! One step of a path: what comes next, the first first.
 ghost use Rattle.std.specs.Prelude.{◌≡◌, map, IfOk, IsTrue};
+ghost use Rattle.std.specs.List.{list_all};
 ghost use Rattle.fsl_asrt.specs.Built as assertions;
-ghost use Rattle.fsl_flow.specs.Built.{is_built_act, are_built};
+ghost use Rattle.fsl_flow.specs.Built.{is_built_act, are_built, is_built_proc};
 ghost use Rattle.fsl_flow.specs.Places.{leaving_of, left_of, item_of, goes_on};
 ghost use Rattle.fsl_flow.specs.Next.{next, next_exit, next_turn, next_block, next_stmt};
 ghost use Rattle.fsl_flow.specs.Rests.{is_built_leaving, is_built_left};
 
+use crate::calls::call;
 use crate::contract::{close, give_inv, return_with};
 use crate::job::Job;
 use crate::looping::{at_body, at_round, decide};
+use crate::par::par;
 use crate::pending::{Pending, each, each_end, each_side, one};
 use crate::rest::{Exit, Level, Rest, Round};
 use crate::sets::past;
@@ -27,6 +30,7 @@ pub fn next<'a>(
     rest: Rest<'a>,
 ) -> Result<List<Pending<'a>>, AllocError>
     requires post { IsTrue (assertions.is_built job.now.proc.now.post) }
+    requires procs { IsTrue (list_all is_built_proc job.now.program.now.procs) }
     requires rest { IsTrue (is_built_left (left_of rest)) }
     ensures { IfOk result (λ ps. map item_of ps ≡ next job.now (goes_on state (left_of rest.entry))) }
 {
@@ -95,6 +99,7 @@ fn block<'a>(
     up: Rest<'a>,
 ) -> Result<List<Pending<'a>>, AllocError>
     requires post { IsTrue (assertions.is_built job.now.proc.now.post) }
+    requires procs { IsTrue (list_all is_built_proc job.now.program.now.procs) }
     requires stmts { IsTrue (are_built stmts.now) }
     ensures { IfOk result (λ ps. map item_of ps ≡ next_block job.now state stmts.now declared (left_of up.entry)) }
 {
@@ -124,6 +129,7 @@ fn statement<'a>(
     rest: Rest<'a>,
 ) -> Result<List<Pending<'a>>, AllocError>
     requires post { IsTrue (assertions.is_built job.now.proc.now.post) }
+    requires procs { IsTrue (list_all is_built_proc job.now.program.now.procs) }
     requires built { IsTrue (is_built_act stmt.now.act) }
     ensures { IfOk result (λ ps. map item_of ps ≡ next_stmt job.now stmt.now declared state (left_of rest.entry)) }
 {
@@ -132,17 +138,19 @@ fn statement<'a>(
         return one(alloc, stmt.span, went, rest);
     }
     match &stmt.act {
+        Act::Call { slot, proc, args } => {
+            let called = call(alloc, job.program, state, *slot, *proc, args.as_slice())?;
+            each(alloc, stmt.span, called, &rest)
+        }
+        Act::Par { calls } => {
+            let joined = par(alloc, job.program, state, calls.as_slice())?;
+            each(alloc, stmt.span, joined, &rest)
+        }
         Act::If { cond, yes, no } => {
             let sides = decide(alloc, state, cond)?;
-            each_side(
-                alloc,
-                stmt.span,
-                sides,
-                yes.as_slice(),
-                no.as_slice(),
-                declared,
-                &rest,
-            )
+            let yes = yes.as_slice();
+            let no = no.as_slice();
+            each_side(alloc, stmt.span, sides, yes, no, declared, &rest)
         }
         Act::While { cond, inv, body } => {
             let given = give_inv(alloc, state, inv)?;

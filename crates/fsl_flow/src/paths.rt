@@ -27,7 +27,7 @@ const NOWHERE: Span = Span { from: 0, to: 0 };
 
 /// The outcome of a procedure, by its number: its first failure, else how many paths it has. The 65537th path that
 /// ends fails `Paths` unless it fails by itself.
-#[tactic(auto, using(crate::proofs::Building::proc_built))]
+#[tactic(auto, using(crate::proofs::Building::proc_built, crate::proofs::Building::procs_built))]
 pub fn outcome(alloc: Global, p: &Program, proc: u32) -> Result<Outcome, AllocError>
     requires built { IsTrue (is_built p.now) }
     requires in_range { proc < length p.now.procs }
@@ -43,7 +43,8 @@ pub fn outcome(alloc: Global, p: &Program, proc: u32) -> Result<Outcome, AllocEr
 
 /// The outcome of a procedure.
 fn judge(alloc: Global, job: &Job<'_>) -> Result<Outcome, AllocError>
-    requires { IsTrue (is_built_proc job.now.proc.now) }
+    requires proc { IsTrue (is_built_proc job.now.proc.now) }
+    requires procs { IsTrue (list_all is_built_proc job.now.program.now.procs) }
     ensures { IfOk result (λ o. o ≡ outcome_of job.now.program.now job.now.number job.now.proc.now) }
 {
     let branches = enter(alloc, job.proc)?;
@@ -56,6 +57,7 @@ fn judge(alloc: Global, job: &Job<'_>) -> Result<Outcome, AllocError>
 /// Follows what waits, one after the other.
 fn walk(alloc: Global, job: &Job<'_>, first: List<Pending<'_>>) -> Result<Outcome, AllocError>
     requires post { IsTrue (assertions.is_built job.now.proc.now.post) }
+    requires procs { IsTrue (list_all is_built_proc job.now.program.now.procs) }
     requires built { IsTrue (list_all is_built_item (map item_of first)) }
     ensures { IfOk result (λ o. o ≡ outcome_from job.now.number 0 (flat_map (item_ends job.now) (map item_of first.entry))) }
 {

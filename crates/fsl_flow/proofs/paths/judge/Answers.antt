@@ -9,7 +9,7 @@ pub walk-requires-clause-built : goal.walk-requires-clause-built
 walk-requires-clause-built c =
     judged_built c.args.job.now (map item_of c.in_ok-first.first) (branches c.in_ok-branches.branches)
     (first_is c.args.job.now (map item_of c.in_ok-first.first) (branches c.in_ok-branches.branches) (left_of c.in_ok-body.body) c.as_slice.result.now
-    c.in_ok-first.ensures c.in_ok-body.ensures c.as_slice.ensures) c.requires
+    c.in_ok-first.ensures c.in_ok-body.ensures c.as_slice.ensures) c.requires.proc
 
 pub returns : goal.returns
 returns c =

@@ -1,0 +1,7 @@
+use Rattle.std.proofs.Common.{Some}
+use Rattle.fsl_asrt.specs.Branches.{branches}
+use Rattle.fsl_flow.proofs.Calling.{nothing_set}
+use Rattle.fsl_flow.proofs.calls.set_each.Goals as goal
+
+pub returns-in-None : goal.returns-in-None
+returns-in-None c = nothing_set c.args.slot (Some c.args.t.now) (branches c.args.gained) c.in-None.is

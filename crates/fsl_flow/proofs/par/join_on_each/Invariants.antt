@@ -1,0 +1,13 @@
+use Rattle.std.proofs.Common.{◌≡◌, ◌++◌}
+use Rattle.fsl_core.specs.logic.States.{followed}
+use Rattle.fsl_asrt.specs.Branches.{branches}
+use Rattle.fsl_flow.specs.Calls.{join_one, running_of}
+use Rattle.fsl_flow.proofs.par.join_on_each.Given as goal
+
+abbrev pub invariant-loop-branch : goal.invariant-loop-branch
+invariant-loop-branch l = record {
+  can : (goal.iterator-loop-branch).can_next l.branch-iterator;
+  finite : (goal.iterator-loop-branch).is_finite l.branch-iterator;
+  so_far : branches l.out ++ followed (branches l.branch-iterator.rest.items) (λ _. join_one (running_of l.x))
+      ≡ followed (branches l.fn.joined) (λ _. join_one (running_of l.x));
+}
