@@ -1,5 +1,6 @@
 //! Whole runs over a shelf and a sink in memory: what no clause says is that memory is found, and which bytes
 //! are which program.
+mod calls;
 mod examples;
 mod limits;
 mod refusals;
@@ -52,57 +53,61 @@ fn expect(rt: &impl Abort, got: Result<(Status, MemSink), AllocError>, status: u
     }
 }
 
+// That a run answers so where nothing outside fails.
+fn answers<R: Threads + Sync + Abort>(
+    rt: &R,
+    alloc: Global,
+    words: &[&str],
+    bytes: &[u8],
+    status: u8,
+    said: &str,
+) {
+    expect(rt, run(rt, alloc, words, bytes, &[], None), status, said);
+}
+
+// Programs with their statuses and texts.
+const JUDGED: [(&str, u8, &str); 10] = [
+    ("proc main() { }", 0, "accepted 1\n"),
+    (
+        "proc main() { let d = alloc na; store na(d, 7); let x = load na(d); assert (x == 7); }",
+        0,
+        "accepted 1\n",
+    ),
+    (
+        "proc main() { let d = alloc na; let x = load na(d); }",
+        1,
+        "failed main 1:33 uninit\n",
+    ),
+    (
+        "proc main() { let x = load na(1); }",
+        1,
+        "failed main 1:15 points\n",
+    ),
+    (
+        "proc main() { let größe = alloc na; let x = load na(größe); }",
+        1,
+        "failed main 1:37 uninit\n",
+    ),
+    (
+        "proc main() {\n  let x = 2 + 3 - 1;\n  assert (x == 5);\n}",
+        1,
+        "failed main 3:3 assert\n",
+    ),
+    ("", 3, "refused type 1:1 nomain\n"),
+    ("proc main() { let d =", 3, "refused syntax 1:22\n"),
+    (
+        "proc main() { print(x); }",
+        3,
+        "refused type 1:21 unknown\n",
+    ),
+    ("proc main() { bank b; }", 3, "refused form\n"),
+];
+
 #[test]
 fn programs_are_judged(rt: HostRuntime) {
-    for (text, status, said) in [
-        ("proc main() { }", 0, "accepted 1\n"),
-        (
-            "proc main() { let d = alloc na; store na(d, 7); let x = load na(d); assert (x == 7); }",
-            0,
-            "accepted 1\n",
-        ),
-        (
-            "proc main() { let d = alloc na; let x = load na(d); }",
-            1,
-            "failed main 1:33 uninit\n",
-        ),
-        (
-            "proc main() { let x = load na(1); }",
-            1,
-            "failed main 1:15 points\n",
-        ),
-        (
-            "proc main() { let größe = alloc na; let x = load na(größe); }",
-            1,
-            "failed main 1:37 uninit\n",
-        ),
-        (
-            "proc main() {\n  let x = 2 + 3 - 1;\n  assert (x == 5);\n}",
-            1,
-            "failed main 3:3 assert\n",
-        ),
-        ("", 3, "refused type 1:1 nomain\n"),
-        ("proc main() { let d =", 3, "refused syntax 1:22\n"),
-        (
-            "proc main() { print(x); }",
-            3,
-            "refused type 1:21 unknown\n",
-        ),
-        ("proc main() { bank b; }", 3, "refused form\n"),
-    ] {
-        expect(
-            &rt,
-            run(
-                &rt,
-                rt.alloc(),
-                &["fslpp", "check", "f"],
-                text.as_bytes(),
-                &[],
-                None,
-            ),
-            status,
-            said,
-        );
+    for (text, status, said) in JUDGED {
+        let words = ["fslpp", "check", "f"];
+        answers(&rt, rt.alloc(), &words, text.as_bytes(), status, said);
     }
 }
 
@@ -113,82 +118,29 @@ fn a_file_has_at_most_1048576_bytes(rt: HostRuntime) {
         (1048576, "refused type 1:1048577 nomain\n"),
     ] {
         let spaces = vec![in rt.alloc(); b' '; count].expect(&rt, "no memory");
-        expect(
-            &rt,
-            run(
-                &rt,
-                rt.alloc(),
-                &["fslpp", "check", "f"],
-                spaces.as_slice(),
-                &[],
-                None,
-            ),
-            3,
-            said,
-        );
+        let words = ["fslpp", "check", "f"];
+        answers(&rt, rt.alloc(), &words, spaces.as_slice(), 3, said);
     }
 }
 
+// Call 4 of the shelf fails; a push takes 5 bytes and fails.
 #[test]
 fn faults_have_their_statuses(rt: HostRuntime) {
+    let alloc = rt.alloc();
     let program = b"proc main() { }";
-    expect(
-        &rt,
-        run(
-            &rt,
-            rt.alloc(),
-            &["fslpp", "check", "f"],
-            program,
-            &[4],
-            None,
-        ),
-        4,
-        "read fault\n",
-    );
-    expect(
-        &rt,
-        run(
-            &rt,
-            rt.alloc(),
-            &["fslpp", "check", "g"],
-            program,
-            &[],
-            None,
-        ),
-        4,
-        "read fault\n",
-    );
-    expect(
-        &rt,
-        run(
-            &rt,
-            rt.alloc(),
-            &["fslpp", "check", "f"],
-            program,
-            &[],
-            Some(5),
-        ),
-        5,
-        "accep",
-    );
+    let words = ["fslpp", "check", "f"];
+    let unread = run(&rt, alloc, &words, program, &[4], None);
+    expect(&rt, unread, 4, "read fault\n");
+    let unwritten = run(&rt, alloc, &words, program, &[], Some(5));
+    expect(&rt, unwritten, 5, "accep");
+    let absent = ["fslpp", "check", "g"];
+    answers(&rt, alloc, &absent, program, 4, "read fault\n");
+}
+
+#[test]
+fn other_words_are_answered_with_the_usage(rt: HostRuntime) {
+    let alloc = rt.alloc();
     let usage = "usage: fslpp check|run|gauge FILE [--workers N] [--seed N] [--steps N]\n";
-    expect(
-        &rt,
-        run(&rt, rt.alloc(), &["fslpp", "check"], program, &[], None),
-        2,
-        usage,
-    );
-    expect(
-        &rt,
-        run(
-            &rt,
-            rt.alloc(),
-            &["fslpp", "judge", "f"],
-            program,
-            &[],
-            None,
-        ),
-        2,
-        usage,
-    );
+    answers(&rt, alloc, &["fslpp", "check"], b"", 2, usage);
+    answers(&rt, alloc, &["fslpp", "judge", "f"], b"", 2, usage);
 }

@@ -65,6 +65,19 @@ const OUTCOMES: &[&str] = &[
     "{\nlet i = 5;\nwhile (i < a) { i = 5; }\nassert (i == 5);\n} => fails 4:1 Assert",
     "{\nlet i = 5;\nwhile (a < b) { let j = i; }\nassert (i == 5);\n} => derived 2",
     "{\nlet i = 5;\nwhile (a < b) { if (a == 0) { i = 6; } }\nassert (i == 5);\n} => fails 4:1 Assert",
+    "{\ncall g(a);\n}\nproc g(x) { } => derived 1",
+    "{\ncall g(a);\n}\nproc g(x) requires (x > 0) { } => fails 2:1 Pre",
+    "{\ncall g(a * b);\n}\nproc g(x) requires (x > 0) { } => fails 2:1 Term",
+    "requires (a |-> 7) {\nlet x = call g(a);\nassert (x == 7);\n}\nproc g(p) requires (p |-> ?v) ensures (result == v) { } => derived 1",
+    "requires (a |-> 7) {\ncall g(a);\nstore na(a, 1);\n}\nproc g(p) requires (p |->[1] _) { } => fails 3:1 Share",
+    "{\nlet x = call g();\nif (x == 0) { }\n}\nproc g() { } => derived 3",
+    "{\ncall g(a);\n}\nproc g(x) ensures (if (x == 0) { emp } else { emp }) { } => derived 3",
+    "{\ncall g(a);\nassert (0 == 1);\n}\nproc g(x) ensures (x < x) { } => derived 0",
+    "ensures (a < b) {\ncall f(b, a);\ncall f(a, b);\n} => derived 0",
+    "requires (a |-> 7) {\npar { g(a); g(a); }\nlet x = load na(a);\nstore na(a, x + 1);\n}\nproc g(p) requires (p |->[1] ?v) ensures (p |->[1] v) { } => derived 1",
+    "requires (a |-> 7) {\npar { g(a); g(b); }\n}\nproc g(p) requires (p |->[1] _) { } => fails 2:1 Points",
+    "requires (a |-> 7) {\npar { g(a); g(a * b); }\n}\nproc g(p) requires (p |-> 8) { } => fails 2:1 Term",
+    "{\npar { g(a); g(b); }\n}\nproc g(x) ensures (if (x == 0) { emp } else { emp }) { } => derived 9",
 ];
 
 /// A failure by its place in a text, which is taken to be short.

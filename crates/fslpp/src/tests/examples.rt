@@ -2,7 +2,7 @@
 //! this file.
 use super::refusals::is_answered;
 
-const EXAMPLES: [(&str, &str); 24] = [
+const EXAMPLES: [(&str, &str); 30] = [
     (
         "// expect: failed raise 7:3 share
 // shows: a cell is written with one share of it; another thread may be reading it
@@ -68,6 +68,39 @@ proc main() {
         "accepted 1\n",
     ),
     (
+        "// expect: accepted 3
+// shows: the work on a cell is divided in two halves, each a thread on a cell of its own, and added up behind the `par`
+proc count_up(counter, times)
+  requires (counter |-> ?before &*& times >= 0)
+  ensures (counter |-> before + times) {
+  let start = load na(counter);
+  let done = 0;
+  while (done < times) inv (counter |-> start + done &*& done <= times) {
+    let value = load na(counter);
+    store na(counter, value + 1);
+    done = done + 1;
+  }
+}
+proc count_in_two(times)
+  requires (times >= 0)
+  ensures (result == 2 * times) {
+  let left = alloc na;
+  let right = alloc na;
+  store na(left, 0);
+  store na(right, 0);
+  par { count_up(left, times); count_up(right, times); }
+  let x = load na(left);
+  let y = load na(right);
+  return x + y;
+}
+proc main() {
+  let sum = call count_in_two(21);
+  assert (sum == 42);
+}
+",
+        "accepted 3\n",
+    ),
+    (
         "// expect: accepted 2
 // shows: a loop that changes a cell; its invariant owns the cell and says how far the count has come
 proc count_up(counter, times)
@@ -84,6 +117,55 @@ proc count_up(counter, times)
 proc main() { }
 ",
         "accepted 2\n",
+    ),
+    (
+        "// expect: accepted 2
+// shows: a procedure that calls itself may rely on its own contract; that it ends isn't shown
+proc countdown(cell)
+  requires (cell |-> ?left &*& left >= 0)
+  ensures (cell |-> 0 &*& result == left) {
+  let left = load na(cell);
+  if (left == 0) { return 0; }
+  store na(cell, left - 1);
+  let rounds = call countdown(cell);
+  return rounds + 1;
+}
+proc main() {
+  let cell = alloc na;
+  store na(cell, 3);
+  let rounds = call countdown(cell);
+  assert (rounds == 3);
+}
+",
+        "accepted 2\n",
+    ),
+    (
+        "// expect: accepted 3
+// shows: a call gives what `requires` says and gains what `ensures` says; the body of the procedure isn't looked at
+proc deposit(account, amount)
+  requires (account |-> ?before &*& amount >= 0)
+  ensures (account |-> before + amount &*& result == before) {
+  let balance = load na(account);
+  store na(account, balance + amount);
+  return balance;
+}
+proc open(amount)
+  requires (amount >= 0)
+  ensures (result |-> amount) {
+  let account = alloc na;
+  store na(account, 0);
+  call deposit(account, amount);
+  return account;
+}
+proc main() {
+  let savings = call open(20);
+  let before = call deposit(savings, 22);
+  assert (before == 20);
+  let after = load na(savings);
+  assert (after == 42);
+}
+",
+        "accepted 3\n",
     ),
     (
         "// expect: accepted 2
@@ -368,6 +450,46 @@ proc main() {
         "accepted 1\n",
     ),
     (
+        "// expect: accepted 2
+// shows: two threads read one cell, with a share of it each; when both have returned it may be written again
+proc copy(source, target)
+  requires (source |->[1] ?v &*& target |-> _)
+  ensures (source |->[1] v &*& target |-> v) {
+  let seen = load na(source);
+  store na(target, seen);
+}
+proc main() {
+  let source = alloc na;
+  store na(source, 7);
+  let left = alloc na;
+  let right = alloc na;
+  par { copy(source, left); copy(source, right); }
+  store na(source, 8);
+  let x = load na(left);
+  let y = load na(right);
+  assert (x == 7);
+  assert (x == y);
+}
+",
+        "accepted 2\n",
+    ),
+    (
+        "// expect: failed main 11:3 points
+// shows: two threads would write one cell; the first takes all of it, so that nothing is left for the second
+proc raise(cell)
+  requires (cell |-> ?v)
+  ensures (cell |-> v + 1) {
+  let seen = load na(cell);
+  store na(cell, seen + 1);
+}
+proc main() {
+  let cell = alloc na; store na(cell, 0);
+  par { raise(cell); raise(cell); }
+}
+",
+        "failed main 11:3 points\n",
+    ),
+    (
         "// expect: failed main 7:3 uninit
 // shows: the second cell is loaded before anything is stored to it
 proc main() {
@@ -390,6 +512,23 @@ proc main() {
 }
 ",
         "failed main 6:3 points\n",
+    ),
+    (
+        "// expect: failed main 12:3 pre
+// shows: the second call may find too little, since the first one doesn't say how much it leaves
+proc withdraw(account, amount)
+  requires (account |-> ?before &*& amount >= 0 &*& amount <= before)
+  ensures (account |-> ?after &*& after <= before) {
+  let balance = load na(account);
+  store na(account, balance - amount);
+}
+proc main() {
+  let account = alloc na;
+  store na(account, 50); call withdraw(account, 20);
+  call withdraw(account, 30);
+}
+",
+        "failed main 12:3 pre\n",
     ),
     (
         "// expect: failed main 8:3 assert

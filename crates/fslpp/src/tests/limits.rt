@@ -119,11 +119,11 @@ const COUNTS: [(&str, &str); 22] = [
     ),
     (
         "proc f() { } proc main() { par { f(); f(); } }",
-        "refused form\n",
+        "accepted 2\n",
     ),
     (
         "proc f() { } proc main() { par { f(); f(); f(); f(); f(); f(); f(); f(); } }",
-        "refused form\n",
+        "accepted 2\n",
     ),
     (
         "proc f() { } proc main() { par { f(); f(); f(); f(); f(); f(); f(); f(); f(); } }",

@@ -1,6 +1,6 @@
 //! Refusals, each with its place: tokens, syntax, names, modes and banks. The programs whose answer is `refused form`
 //! are programs, but none that `check` covers.
-use super::{expect, run};
+use super::answers;
 use std::alloc::Global;
 use std::process::Abort;
 use std::thread::Threads;
@@ -339,8 +339,7 @@ fn status(said: &str) -> u8 {
 // That `check` answers a program so.
 pub fn is_answered<R: Threads + Sync + Abort>(rt: &R, alloc: Global, text: &str, said: &str) {
     let words = ["fslpp", "check", "f"];
-    let got = run(rt, alloc, &words, text.as_bytes(), &[], None);
-    expect(rt, got, status(said), said);
+    answers(rt, alloc, &words, text.as_bytes(), status(said), said);
 }
 
 #[test]

@@ -1,5 +1,5 @@
 //! Runs of programs, and their texts.
-use super::{expect, run, shelf};
+use super::{answers, expect, run, shelf};
 use crate::run::run_cmd;
 use crate::status::Status;
 use fsl_base::{Gate, List, MemSink, OpenGate, Spot};
@@ -34,23 +34,22 @@ fn run_of<R: Threads + Sync>(
     Ok((status, sink))
 }
 
-#[test]
-fn programs_are_run(rt: HostRuntime) {
-    for (text, status, said) in [
-        (
-            "proc main() { }",
-            0,
-            "execution 1
+// Programs with their statuses and texts.
+const RUN: [(&str, u8, &str); 7] = [
+    (
+        "proc main() { }",
+        0,
+        "execution 1
 end finished
 thread 0 proc 0 moves 1 args
 event 0 thread 0 end 0
 done
 ",
-        ),
-        (
-            CELL,
-            0,
-            "execution 1
+    ),
+    (
+        CELL,
+        0,
+        "execution 1
 end finished
 thread 0 proc 0 moves 5 args
 event 0 thread 0 alloc na 1
@@ -60,52 +59,45 @@ event 3 thread 0 end 0
 mo 1: 1
 done
 ",
-        ),
-        (
-            "proc main() { print(-9223372036854775808); }",
-            0,
-            "execution 1
+    ),
+    (
+        "proc main() { print(-9223372036854775808); }",
+        0,
+        "execution 1
 end finished
 thread 0 proc 0 moves 2 args
 event 0 thread 0 print -9223372036854775808
 event 1 thread 0 end 0
 done
 ",
-        ),
-        (
-            "proc main() { print(9223372036854775808); }",
-            8,
-            "execution 1
+    ),
+    (
+        "proc main() { print(9223372036854775808); }",
+        8,
+        "execution 1
 end halted 0
 thread 0 proc 0 moves 1 args
 done
 ",
-        ),
-        (
-            "proc main() { let d = alloc na; let x = load na(d); }",
-            1,
-            "failed main 1:33 uninit\n",
-        ),
-        (
-            "proc main() { print(x); }",
-            3,
-            "refused type 1:21 unknown\n",
-        ),
-        ("proc main() { while (true) { } }", 3, "refused form\n"),
-    ] {
-        expect(
-            &rt,
-            run(
-                &rt,
-                rt.alloc(),
-                &["fslpp", "run", "f"],
-                text.as_bytes(),
-                &[],
-                None,
-            ),
-            status,
-            said,
-        );
+    ),
+    (
+        "proc main() { let d = alloc na; let x = load na(d); }",
+        1,
+        "failed main 1:33 uninit\n",
+    ),
+    (
+        "proc main() { print(x); }",
+        3,
+        "refused type 1:21 unknown\n",
+    ),
+    ("proc main() { while (true) { } }", 3, "refused form\n"),
+];
+
+#[test]
+fn programs_are_run(rt: HostRuntime) {
+    for (text, status, said) in RUN {
+        let words = ["fslpp", "run", "f"];
+        answers(&rt, rt.alloc(), &words, text.as_bytes(), status, said);
     }
 }
 
@@ -180,19 +172,9 @@ fn a_run_that_is_not_read_or_not_written_says_so(rt: HostRuntime) {
         ("f", 0, Some(9), 5, "execution"),
         ("f", 0, Some(0), 5, ""),
     ] {
-        expect(
-            &rt,
-            run(
-                &rt,
-                rt.alloc(),
-                &["fslpp", "run", name],
-                CELL.as_bytes(),
-                &[failing],
-                cut,
-            ),
-            status,
-            said,
-        );
+        let words = ["fslpp", "run", name];
+        let got = run(&rt, rt.alloc(), &words, CELL.as_bytes(), &[failing], cut);
+        expect(&rt, got, status, said);
     }
 }
 
