@@ -30,7 +30,9 @@ fn ends(numbers: &[i128]) -> Option<(u32, u32)>
     let mut found = Some((0, 0));
     for below in 0..numbers.len() - 1 {
         let at = below + 1;
-        found = end_at(&numbers[at], at as u32, found);
+        if numbers[at] != 0 {
+            found = end_at(&numbers[at], at as u32, found);
+        }
     }
     found
 }
