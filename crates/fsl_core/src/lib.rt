@@ -25,8 +25,6 @@ mod same_expr;
 mod scope;
 mod scoping;
 mod straight;
-#[cfg(test)]
-mod tests;
 mod values;
 mod verdict;
 mod well_formed;

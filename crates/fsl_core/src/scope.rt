@@ -1,7 +1,7 @@
 //! What a place of a procedure or an invariant sees: how each variable may be used there, and where the place
 //! stands. What code and assertions read is held against it.
 ghost use Rattle.std.specs.Prelude.{◌≡◌};
-ghost use Rattle.fsl_core.specs.Scopes.{is_number, is_bank, is_free, is_settable, sight_at, with_sight, in_loop, in_ensures, reads, reads_all, tests, is_bank_alone, inst_argument_fits, inst_reads, argument_fits, step_reads, steps_read, update_reads};
+ghost use Rattle.fsl_core.specs.Scopes.{is_number, is_bank, is_free, is_settable, kept, sight_at, with_sight, in_loop, in_ensures, reads, reads_all, tests, is_bank_alone, inst_argument_fits, inst_reads, argument_fits, step_reads, steps_read, update_reads};
 
 use crate::act::Step;
 use crate::assertion::Inst;
@@ -61,6 +61,16 @@ impl Sight {
         }
     }
 
+    /// How it is seen in the body, where it was seen so in the contract.
+    pub(crate) fn kept(self) -> Sight
+        ensures { result ≡ kept self }
+    {
+        match self {
+            Sight::Bound => Sight::Kept,
+            _ => self,
+        }
+    }
+
     /// Whether the variable may be declared.
     pub(crate) fn is_free(self) -> bool
         ensures { result ≡ is_free self }
@@ -104,7 +114,6 @@ impl Scope {
     }
 
     /// Whether an expression reads visible numbers alone, and the result in `ensures` alone.
-    #[cycle(reads)]
     pub(crate) fn reads(&self, e: &Expr) -> bool
         ensures { result ≡ reads self.now e.now }
     {
@@ -121,12 +130,18 @@ impl Scope {
                 }
                 true
             }
-            Expr::Product { parts } => self.reads_all(parts.as_slice()),
+            Expr::Product { parts } => {
+                for factor in parts.as_slice() {
+                    if !self.reads(factor) {
+                        return false;
+                    }
+                }
+                true
+            }
         }
     }
 
     /// The same of several expressions.
-    #[cycle(reads)]
     pub(crate) fn reads_all(&self, es: &[Expr]) -> bool
         ensures { result ≡ reads_all self.now es.now }
     {

@@ -1,7 +1,7 @@
 //! Whether variables are scoped and of a sort: assertions and statements are held against the scopes in which they
 //! stand, one after the other. A block has a copy of the scope around it.
-ghost use Rattle.std.specs.Prelude.{◌≡◌, ◌&&◌, IsTrue, map};
-ghost use Rattle.std.specs.List.{list_all};
+ghost use Rattle.std.specs.Prelude.{◌≡◌, ◌&&◌, ◌==◌, IsTrue};
+ghost use Rattle.std.specs.List.{list_all, list_any};
 ghost use Rattle.fsl_core.specs.declared.scope.Sight.TheVariants as seen;
 ghost use Rattle.fsl_core.specs.Scopes.{is_free, is_settable, sight_at, with_sight, asrt_scoped, act_scoped, stmt_scoped, block_scoped, passes, arguments_fit, pat_fits, bound};
 
@@ -72,16 +72,26 @@ pub(crate) fn stands(asrt: &Asrt, scope: Scope) -> bool
     asrt_fits(asrt, &mut inside)
 }
 
+/// Whether the parameter of a slot is a bank, where these are the banks.
+fn is_among(banks: &[u32], slot: usize) -> bool
+    ensures { result ≡ list_any (λ bank. bank == slot) banks.now }
+{
+    for bank in banks {
+        if *bank as usize == slot {
+            return true;
+        }
+    }
+    false
+}
+
 /// Whether arguments may be given for the parameters of a procedure with these banks.
 fn arguments_fit(scope: &Scope, banks: &[u32], args: &[Expr]) -> bool
     ensures { result ≡ arguments_fit scope.now banks.now 0 args.now }
 {
-    let mut slot = 0;
-    for e in args {
-        if !scope.argument_fits(banks.contains(&slot), e) {
+    for (slot, e) in args.iter().enumerate() {
+        if !scope.argument_fits(is_among(banks, slot), e) {
             return false;
         }
-        slot += 1;
     }
     true
 }
@@ -190,6 +200,7 @@ fn act_fits(procs: &[Proc], act: &Act, scope: &mut Scope) -> bool
 
 /// Whether statements may stand in a scope, one after the other.
 #[cycle(act_fits)]
+#[tactic(auto, using(crate::proofs::Sights::stmt_is))]
 pub(crate) fn block_fits(procs: &[Proc], stmts: &[Stmt], scope: Scope) -> bool
     ensures { result ≡ (block_scoped procs.now stmts.now).fits scope }
 {

@@ -190,12 +190,19 @@ impl<'a> Given<'a> {
             && self.block_fits(proc.body.as_slice())
     }
 
-    /// Whether all procedures fit, and their variables are scoped.
+    /// Whether a procedure fits, and its variables are scoped.
+    fn proc_is_well(&self, proc: &Proc) -> bool
+        ensures { result ≡ proc_is_well self.now proc.now }
+    {
+        self.proc_fits(proc) && proc_is_scoped(self.procs, proc)
+    }
+
+    /// The same of all procedures.
     fn procs_are_well(&self) -> bool
         ensures { result ≡ list_all (proc_is_well self.now) self.now.procs }
     {
         for proc in self.procs {
-            if !(self.proc_fits(proc) && proc_is_scoped(self.procs, proc)) {
+            if !self.proc_is_well(proc) {
                 return false;
             }
         }
@@ -232,10 +239,10 @@ fn has_main(procs: &[Proc]) -> bool
     ensures { result ≡ is_startable (main_among procs.now) }
 {
     match main_of(procs) {
-        Some(number) => {
-            let main = &procs[number];
-            main.params == 0 && is_emp(&main.pre)
-        }
+        Some(number) => match procs.get(number) {
+            Some(main) => main.params == 0 && is_emp(&main.pre),
+            None => false,
+        },
         None => false,
     }
 }

@@ -68,16 +68,19 @@ fn given_to(inv: &Inv) -> Scope
 }
 
 /// The scope of the body, where a binder of `requires` is neither visible nor declared.
+#[tactic(auto, using(crate::proofs::Sights::kept_more))]
 fn in_body(scope: Scope) -> Scope
     ensures { result ≡ in_body scope }
 {
-    let mut scope = scope;
+    let mut sights = scope.sights;
     for slot in 0..MAX_SLOTS {
-        if scope.sights[slot] == Sight::Bound {
-            scope.sights[slot] = Sight::Kept;
-        }
+        sights[slot] = scope.sights[slot].kept();
     }
-    scope
+    Scope {
+        sights,
+        in_ensures: scope.in_ensures,
+        in_loop: scope.in_loop,
+    }
 }
 
 /// Whether the numbers of parameters, variables and banks go together.
