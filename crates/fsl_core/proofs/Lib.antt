@@ -4,5 +4,4 @@ pub mod JudgedCells
 pub mod JudgedFences
 pub mod JudgedMessages
 pub mod JudgedUpdates
-pub mod Parts
 pub mod Quick

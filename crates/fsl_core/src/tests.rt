@@ -1,8 +1,7 @@
 //! Tests of what no clause says: values at the edges of the range, and that copies succeed where there
 //! is memory.
 
-ghost use Rattle.std.specs.Prelude.{◌≡◌, [], ◌∷◌, IsTrue, IfOk};
-ghost use Rattle.fsl_core.specs.Values.{slots_below};
+ghost use Rattle.std.specs.Prelude.{◌≡◌, [], ◌∷◌, IfOk};
 
 use crate::act::{Act, Called, Step, Stmt};
 use crate::assertion::{Asrt, Inst, Pat};
@@ -59,9 +58,7 @@ fn a_condition_compares_its_sides(rt: HostRuntime) {
 }
 
 // `l + r`, or `l - r`.
-fn sum(alloc: Global, l: i128, minus: bool, r: i128) -> Result<Expr, AllocError>
-    ensures { IfOk result (λ e. IsTrue (slots_below 0 e)) }
-{
+fn sum(alloc: Global, l: i128, minus: bool, r: i128) -> Result<Expr, AllocError> {
     let e = Expr::Const { n: l };
     let mut parts = one(alloc, Part { minus: false, e })?;
     let e = Expr::Const { n: r };
@@ -70,9 +67,7 @@ fn sum(alloc: Global, l: i128, minus: bool, r: i128) -> Result<Expr, AllocError>
 }
 
 // `-n`
-fn negation(alloc: Global, n: i128) -> Result<Expr, AllocError>
-    ensures { IfOk result (λ e. IsTrue (slots_below 0 e)) }
-{
+fn negation(alloc: Global, n: i128) -> Result<Expr, AllocError> {
     let e = Boxed::new(alloc, Expr::Const { n })?;
     Ok(Expr::Neg { e })
 }
