@@ -1,4 +1,3 @@
 pub mod Distinct
 pub mod Blocks
-pub mod Parts
 pub mod Sights

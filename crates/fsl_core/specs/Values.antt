@@ -1,8 +1,7 @@
 -- The value of an expression and of a condition where the variables have values: whole numbers from
 -- -2^63 to 2^63-1, and `None` where a constant or a result leaves them.
-use Rattle.std.specs.Prelude.{ℕ, ◌^◌, nat_lt, Bool, true, false, not, ◌&&◌, List, [], ◌∷◌, slice_get, ℤ, pos, negsuc, ◌+ℤ◌, ◌-ℤ◌, ◌*ℤ◌, neg_ℤ, Option, Some, None, if◌then◌else◌, int_lt, int_le}
+use Rattle.std.specs.Prelude.{◌^◌, nat_lt, Bool, true, false, not, List, [], ◌∷◌, slice_get, ℤ, pos, negsuc, ◌+ℤ◌, ◌-ℤ◌, ◌*ℤ◌, neg_ℤ, Option, Some, None, if◌then◌else◌, int_lt, int_le}
 use Rattle.std.specs.Ordering.{int_eq}
-use Rattle.std.specs.List.{list_all}
 use Rattle.fsl_core.specs.declared.expr.Expr.{Expr}
 use Rattle.fsl_core.specs.declared.expr.Expr.TheOpen.{Expr-F, Part-F}
 use Rattle.fsl_core.specs.declared.expr.Expr.TheFolds.{fold-Expr, fold-Part}
@@ -70,31 +69,6 @@ holds_of cond.Yes env = Some true
 holds_of cond.No env = Some false
 holds_of (cond.Cmp op l r) env = with_value (value_of l env) (λ v. with_value (value_of r env) (λ w. Some (compared op v w)))
 
-abbrev pub slots_step : ℕ → Expr-F Bool Bool → Bool
-slots_step n (Expr-F.Const c) = true
-slots_step n (Expr-F.Var slot) = nat_lt slot n
-slots_step n Expr-F.Result_ = false
-slots_step n (Expr-F.Neg e) = e
-slots_step n (Expr-F.Sum parts) = list_all (λ is. is) parts
-slots_step n (Expr-F.Product factors) = list_all (λ is. is) factors
-
-abbrev pub part_slots_step : Part-F Bool Bool → Bool
-part_slots_step p = p.e
-
--- an expression speaks of the first n variables alone, and not of the result
-abbrev pub slots_below : ℕ → Expr → Bool
-slots_below n = fold-Expr Bool Bool (slots_step n) part_slots_step
-
--- the same of both sides of a condition
-abbrev pub cond_slots_below : ℕ → Cond → Bool
-cond_slots_below n cond.Yes = true
-cond_slots_below n cond.No = true
-cond_slots_below n (cond.Cmp op l r) = slots_below n l && slots_below n r
-
 -- whether a part is subtracted, and its value
 abbrev pub part_of : Part → Bool × Value
 part_of = fold-Part Value (Bool × Value) value_step part_step
-
--- the same of a part
-abbrev pub part_slots_below : ℕ → Part → Bool
-part_slots_below n = fold-Part Bool Bool (slots_step n) part_slots_step

@@ -1,22 +1,21 @@
 //! The values of expressions and conditions at given values of the variables: whole numbers from -2^63
 //! to 2^63-1.
-ghost use Rattle.std.specs.Prelude.{◌≡◌, ◌+◌, ◌<◌, length, IsTrue, ◌*ℤ◌, neg_ℤ};
-ghost use Rattle.fsl_core.specs.Values.{value_of, holds_of, in_range, plus_or_minus, compared, slots_below, cond_slots_below};
+ghost use Rattle.std.specs.Prelude.{◌≡◌, ◌*ℤ◌, neg_ℤ};
+ghost use Rattle.fsl_core.specs.Values.{value_of, holds_of, in_range, plus_or_minus, compared};
 
 use crate::expr::{CmpOp, Cond, Expr};
 use fsl_base::List;
 
 /// The value of an expression where variable `i` has value `env[i]`; `None` exactly where a constant, a
-/// negation, or a partial sum (from 0) or product (from 1) leaves -2^63 .. 2^63-1. The expression has
-/// no `Result_`, and its variables have values.
+/// negation, or a partial sum (from 0) or product (from 1) leaves -2^63 .. 2^63-1, a variable has no
+/// value, or the result of a procedure is spoken of.
 pub fn eval(e: &Expr, env: &List<i64>) -> Option<i64>
-    requires { IsTrue (slots_below (length env.now) e.now) }
     ensures { result ≡ value_of e.now env.now }
 {
     match e {
         Expr::Const { n } => in_range(*n),
         Expr::Var { slot } => env.get(*slot as usize).copied(),
-        Expr::Result_ => unreachable!(),
+        Expr::Result_ => None,
         Expr::Neg { e } => negated(eval(e.get(), env)?),
         Expr::Sum { parts } => {
             let mut sum = 0;
@@ -37,10 +36,8 @@ pub fn eval(e: &Expr, env: &List<i64>) -> Option<i64>
     }
 }
 
-/// Whether a condition holds; `None` exactly where a side has no value. No side has a `Result_`, and
-/// their variables have values.
+/// Whether a condition holds; `None` exactly where a side has no value.
 pub fn holds(c: &Cond, env: &List<i64>) -> Option<bool>
-    requires { IsTrue (cond_slots_below (length env.now) c.now) }
     ensures { result ≡ holds_of c.now env.now }
 {
     match c {

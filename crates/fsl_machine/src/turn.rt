@@ -1,9 +1,10 @@
 //! One move of the thread: what it asks, what it shows, and what it leaves.
-ghost use Rattle.std.specs.Prelude.{◌≡◌, ℕ, ◌+◌, ◌<◌, ◌^◌, length, IfSome, IsTrue, OnOk, OnErr, true, if◌then◌else◌};
-ghost use Rattle.fsl_core.specs.Straight.{is_straight};
+ghost use Rattle.std.specs.Prelude.{◌≡◌, ℕ, ◌+◌, ◌<◌, ◌^◌, length, IfSome, OnOk, OnErr, true, false, if◌then◌else◌};
 ghost use Rattle.fsl_core.specs.Moves.{need_of, moved};
 ghost use Rattle.fsl_graph.specs.Lone.{is_plain};
 ghost use Rattle.fsl_moves.specs.Configs.{config_of, Fits};
+ghost use Rattle.fsl_moves.specs.Memory.{is_list, grows};
+ghost use Rattle.fsl_moves.specs.Numbers.{HasNumbers};
 ghost use Rattle.fsl_machine.specs.Ends.{limit_of};
 ghost use Rattle.fsl_machine.specs.Labels.{label_by};
 ghost use Rattle.fsl_machine.specs.States.{grown, lone_graph};
@@ -26,10 +27,10 @@ const MAX_MESSAGES: u32 = 65536;
 /// The most threads.
 const MAX_THREADS: usize = 1024;
 
-/// What the next move asks.
+/// What the next move asks, which is no list.
 pub(crate) fn asked(alloc: Global, p: &Program, c: &Config) -> Need
-    requires straight { IsTrue (is_straight p.now) }
     requires fits { Fits p.now c.now }
+    requires plain { is_list (need_of p.now (config_of p.now c.now)) ≡ false }
     ensures { result ≡ need_of p.now (config_of p.now c.now) }
 {
     match next(alloc, p, c) {
@@ -103,10 +104,11 @@ pub(crate) fn ask<C: Choose>(choose: &mut C, need: &Need)
     }
 }
 
-/// Makes the move.
+/// Makes the move, which takes no memory.
 pub(crate) fn go_on(alloc: Global, p: &Program, c: &mut Config, reply: Reply)
-    requires straight { IsTrue (is_straight p.now) }
     requires fits { Fits p.now c.old }
+    requires plain { grows (config_of p.now c.old) ≡ false }
+    requires numbers { HasNumbers (need_of p.now (config_of p.now c.old)) reply }
     ensures moved { config_of p.now c.new ≡ (moved p.now (config_of p.now c.old) reply).config }
     ensures fits { Fits p.now c.new }
 {

@@ -1,2 +1,5 @@
-pub mod Slots
-pub mod Straight
+pub mod Asked
+pub mod Carried
+pub mod Forks
+pub mod Frames
+pub mod Paths

@@ -1,18 +1,19 @@
--- Configurations that keep a position in the program, and the configurations of the definition that they
--- stand for.
-use Rattle.std.specs.Prelude.{ℕ, ◌≡◌, ◌≤◌, slice_get, List, [], length, Option, Some, None, drop}
+-- Configurations that keep a place in the program, and the configurations of the definition that they stand for.
+use Rattle.std.specs.Prelude.{ℕ, ◌+◌, ◌<◌, ◌^◌, slice_get, List, [], ◌∷◌, ◌++◌, map, reverse, Option, Some, None, drop}
+use Rattle.fsl_core.specs.declared.act.Act.{Act}
+use Rattle.fsl_core.specs.declared.act.Act.TheOpen.{Act-F}
+use Rattle.fsl_core.specs.declared.act.Act.TheViews.{out-Act}
 use Rattle.fsl_core.specs.declared.act.Stmt.{Stmt}
 use Rattle.fsl_core.specs.declared.declaration.Proc.{Proc}
 use Rattle.fsl_core.specs.Programs.{Program}
 use Rattle.fsl_core.specs.Moves as moves
-use Rattle.fsl_core.specs.Moves.{Values, Frame, Move, act_move}
-use Rattle.fsl_core.specs.declared.act.Act.TheViews.{out-Act}
+use Rattle.fsl_moves.specs.declared.config.Arm.{Arm}
+use Rattle.fsl_moves.specs.declared.config.Arm.TheVariants as arm
+use Rattle.fsl_moves.specs.declared.config.Children.{Children}
 use Rattle.fsl_moves.specs.declared.config.Config.{Config}
 use Rattle.fsl_moves.specs.declared.config.Config.TheVariants as config
-
--- the last procedure of a thread, with these statements left
-abbrev pub frame : List Stmt → Values → Frame
-frame stmts env = record { stmts = stmts; env = env; target = None }
+use Rattle.fsl_moves.specs.declared.config.Entry.{Entry}
+use Rattle.fsl_moves.specs.declared.config.Frame.{Frame}
 
 abbrev pub body_of : Option Proc → List Stmt
 body_of None = []
@@ -22,25 +23,69 @@ abbrev pub params_of : Option Proc → ℕ
 params_of None = 0
 params_of (Some proc) = proc.params
 
--- the configuration with the statements from its position on
+-- ---- places in a body
+
+-- a block of a statement
+abbrev pub block_of : Arm → Act-F Act Stmt → List Stmt
+block_of arm.Yes (Act-F.If cond a b) = a
+block_of arm.No (Act-F.If cond a b) = b
+block_of arm.Body (Act-F.While cond inv body) = body
+block_of _ _ = []
+
+abbrev pub block_in : Arm → Option Stmt → List Stmt
+block_in arm None = []
+block_in arm (Some stmt) = block_of arm (out-Act stmt.act)
+
+-- the block that is entered from the one around it
+abbrev pub entered : Entry → List Stmt → List Stmt
+entered e block = block_in e.arm (slice_get block e.stmt)
+
+-- the block at the end of a path, which begins at a body
+abbrev pub innermost : List Stmt → List Entry → List Stmt
+innermost block [] = block
+innermost block (e ∷ path) = innermost (entered e block) path
+
+-- what is left of the blocks around that one, the inner ones first
+abbrev pub around : List Stmt → List Entry → List Stmt
+around block [] = []
+around block (e ∷ path) = around (entered e block) path ++ drop e.onward block
+
+-- what is left from a place on
+abbrev pub left_from : List Stmt → List Entry → ℕ → List Stmt
+left_from body path at = drop at (innermost body path) ++ around body path
+
+-- ---- threads
+
+abbrev pub frame_of : Program → Frame → moves.Frame
+frame_of p f = record {
+  stmts = left_from (body_of (slice_get p.procs f.proc)) f.path.items f.at;
+  env = f.env;
+  target = f.target;
+}
+
+-- the procedures that wait, the innermost first
+abbrev pub frames_of : Program → List Frame → List moves.Frame
+frames_of p below = reverse (map (frame_of p) below)
+
+abbrev pub running_or_joining : Option Children → moves.Frame → List moves.Frame → moves.Config
+running_or_joining None f fs = moves.running f fs
+running_or_joining (Some c) f fs = moves.joining c.first c.count f fs
+
+-- the configuration with the statements from its places on
 abbrev pub config_of : Program → Config → moves.Config
-config_of p (config.Running proc at env) = moves.running (frame (drop at (body_of (slice_get p.procs proc))) env) []
+config_of p (config.Running f below children) = running_or_joining children (frame_of p f) (frames_of p below.items)
 config_of p (config.Returned v) = moves.returned v
 config_of p config.Halted = moves.halted
 config_of p config.Failed = moves.failed
 
--- a position in a procedure, and a value for each slot of it
-abbrev pub IsIn : Option Proc → ℕ → Values → Type 0
-IsIn None at env = ⊥
-IsIn (Some proc) at env = (at ≤ length proc.body) × (length env ≡ proc.slots)
+-- the threads that are waited for have numbers
+abbrev pub AreNumbered : Option Children → Type 0
+AreNumbered None = Unit {0}
+AreNumbered (Some c) = c.first + c.count < 2 ^ 32
 
 -- the configuration is one of the program
 abbrev pub Fits : Program → Config → Type 0
-Fits p (config.Running proc at env) = IsIn (slice_get p.procs proc) at env
+Fits p (config.Running f below children) = AreNumbered children
 Fits p (config.Returned v) = Unit {0}
 Fits p config.Halted = Unit {0}
 Fits p config.Failed = Unit {0}
-
--- the move of a statement, with those behind it, in the last procedure of a thread
-abbrev pub stmt_move : Program → Stmt → List Stmt → Values → Move
-stmt_move p stmt rest env = act_move p (out-Act stmt.act) stmt (frame rest env) []

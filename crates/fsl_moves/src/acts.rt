@@ -1,132 +1,217 @@
-//! The moves of single statements: what each asks, and what a reply makes of the variables.
-ghost use Rattle.std.specs.Prelude.{◌≡◌, List as Seq, length, IsTrue, Some};
+//! The moves of statements: how each ends.
+ghost use Rattle.std.specs.Prelude.{◌≡◌, true, List as Seq, IfOk, OnErr};
+ghost use Rattle.fsl_core.specs.declared.act.Act.TheOpen.{Act-F};
+ghost use Rattle.fsl_core.specs.declared.act.Act.TheViews.{out-Act};
 ghost use Rattle.fsl_core.specs.declared.act.Stmt.{Stmt};
-ghost use Rattle.fsl_core.specs.Straight.{is_sum, is_equation, is_straight_act};
-ghost use Rattle.fsl_core.specs.Values.{value_of, holds_of};
-ghost use Rattle.fsl_moves.specs.Configs.{stmt_move};
-ghost use Rattle.fsl_moves.specs.Done.{after};
+ghost use Rattle.fsl_core.specs.declared.assertion.Asrt.{Asrt};
+ghost use Rattle.fsl_core.specs.Programs.{Program};
+ghost use Rattle.fsl_moves.specs.Done.{Ends};
+ghost use Rattle.fsl_moves.specs.Numbers.{CanNumber, IsNumbered};
+ghost use Rattle.fsl_moves.specs.Turns.{is_entry};
+ghost use Rattle.fsl_moves.specs.Memory.{act_grows};
 
+use crate::accesses::{added, allocated, exchanged, freed, loaded, set, shown, stored, swapped};
+use crate::calls::{are_possible, arguments, entered};
+use crate::config::{Arm, Children};
+use crate::done::{Done, Turn};
+use crate::lists::numbers;
+use crate::needs::kind_at;
 use fsl_base::List;
-use fsl_core::{Act, AllocKind, Cond, Expr, Label, Need, Program, Reply, Stmt, eval, holds};
+use fsl_core::{Act, AllocKind, Called, Cond, Expr, Label, Program, Reply, eval, holds};
+use std::alloc::{AllocError, Global};
 
-/// How the move of a statement ends.
-#[derive(Drop)]
-pub enum Done {
-    /// The thread goes on behind the statement, with the label of the move unless it is local.
-    Goes { label: Option<Label> },
-    Halts,
-    Fails,
-}
-
-/// The value of a sum.
-#[tactic(auto, using(crate::proofs::Slots::sum_slots))]
-fn value(e: &Expr, env: &List<i64>) -> Option<i64>
-    requires { IsTrue (is_sum e.now (length env.now)) }
-    ensures { result ≡ value_of e.now env.now }
+fn assigned(env: &mut List<i64>, slot: u32, e: &Expr) -> Turn
+    ensures { (p : Program) (reply : Reply) → Ends p (Act-F.Set slot e.now) env.old reply env.new (Done.Turns result) }
 {
-    eval(e, env)
-}
-
-/// Whether an equation holds.
-#[tactic(auto, using(crate::proofs::Slots::equation_slots))]
-fn is_so(cond: &Cond, env: &List<i64>) -> Option<bool>
-    requires { IsTrue (is_equation cond.now (length env.now)) }
-    ensures { result ≡ holds_of cond.now env.now }
-{
-    holds(cond, env)
-}
-
-/// What the move of a statement asks.
-pub fn asked(p: &Program, stmt: &Stmt, env: &List<i64>) -> Need
-    requires { IsTrue (is_straight_act stmt.now.act (length env.now)) }
-    ensures { (rest : Seq Stmt) → (stmt_move p.now stmt.now rest env.now).need ≡ result }
-{
-    match &stmt.act {
-        Act::AllocNa { .. } => Need::Alloc {
-            kind: AllocKind::Na,
-        },
-        Act::Load { mode, at, .. } => match value(at, env) {
-            Some(loc) => Need::Load { mode: *mode, loc },
-            None => Need::Local,
-        },
-        Act::Store { mode, at, e } => match (value(at, env), value(e, env)) {
-            (Some(loc), Some(value)) => Need::Store {
-                mode: *mode,
-                loc,
-                value,
-            },
-            _ => Need::Local,
-        },
-        Act::Print { e } => match value(e, env) {
-            Some(value) => Need::Print { value },
-            None => Need::Local,
-        },
-        Act::Set { .. } | Act::Assert { .. } => Need::Local,
-        _ => unreachable!(),
+    match eval(e, env) {
+        Some(value) => {
+            set(env, slot, value);
+            Turn::Goes { label: None }
+        }
+        None => Turn::Halts { label: None },
     }
 }
 
-/// Makes the move of a statement: a variable is set in place.
-pub fn carried_out(p: &Program, stmt: &Stmt, env: &mut List<i64>, reply: Reply) -> Done
-    requires { IsTrue (is_straight_act stmt.now.act (length env.old)) }
-    ensures moved { (rest : Seq Stmt) → (stmt_move p.now stmt.now rest env.old).answered reply ≡ after rest env.new result }
-    ensures slots { length env.new ≡ length env.old }
+/// The end where a number leaves its range.
+fn halted() -> Done
+    ensures { result ≡ Done.Turns (Turn.Halts None) }
 {
-    match &stmt.act {
-        Act::Set { slot, e } => match value(e, env) {
-            Some(v) => {
-                env.set(*slot as usize, v);
-                Done::Goes { label: None }
-            }
-            None => Done::Halts,
+    Done::Turns {
+        turn: Turn::Halts { label: None },
+    }
+}
+
+fn branched(cond: &Cond, env: &List<i64>) -> Done
+    ensures done { (p : Program) (reply : Reply) (a b : Seq Stmt) → Ends p (Act-F.If cond.now a b) env.now reply env.now result }
+    ensures numbered { IsNumbered result }
+{
+    match holds(cond, env) {
+        Some(true) => Done::Enters { arm: Arm::Yes },
+        Some(false) => Done::Enters { arm: Arm::No },
+        None => halted(),
+    }
+}
+
+fn repeated(cond: &Cond, env: &List<i64>) -> Done
+    ensures done { (p : Program) (reply : Reply) (inv : Asrt) (body : Seq Stmt) → Ends p (Act-F.While cond.now inv body) env.now reply env.now result }
+    ensures numbered { IsNumbered result }
+{
+    match holds(cond, env) {
+        Some(true) => Done::Enters { arm: Arm::Body },
+        Some(false) => Done::Turns {
+            turn: Turn::Goes { label: None },
         },
-        Act::AllocNa { slot } => match reply {
-            Reply::Place { loc } => {
-                env.set(*slot as usize, loc);
-                Done::Goes {
-                    label: Some(Label::Alloc {
-                        kind: AllocKind::Na,
-                        loc,
-                    }),
-                }
-            }
-            _ => Done::Fails,
+        None => halted(),
+    }
+}
+
+fn asserted(cond: &Cond, env: &List<i64>) -> Turn
+    ensures { (p : Program) (reply : Reply) → Ends p (Act-F.Assert cond.now) env.now reply env.now (Done.Turns result) }
+{
+    match holds(cond, env) {
+        Some(true) => Turn::Goes { label: None },
+        Some(false) => Turn::Fails,
+        None => Turn::Halts { label: None },
+    }
+}
+
+fn printed(e: &Expr, env: &List<i64>) -> Turn
+    ensures { (p : Program) (reply : Reply) → Ends p (Act-F.Print e.now) env.now reply env.now (Done.Turns result) }
+{
+    match eval(e, env) {
+        Some(value) => Turn::Goes {
+            label: Some(Label::Print { value }),
         },
-        Act::Load { slot, mode, at } => match (value(at, env), reply) {
-            (None, _) => Done::Halts,
-            (Some(loc), Reply::Read { value }) => {
-                env.set(*slot as usize, value);
-                Done::Goes {
-                    label: Some(Label::Load {
-                        mode: *mode,
-                        loc,
-                        value,
-                    }),
-                }
-            }
-            _ => Done::Fails,
-        },
-        Act::Store { mode, at, e } => match (value(at, env), value(e, env)) {
-            (Some(loc), Some(value)) => Done::Goes {
-                label: Some(Label::Store {
-                    mode: *mode,
-                    loc,
-                    value,
-                }),
-            },
-            _ => Done::Halts,
-        },
-        Act::Assert { cond } => match is_so(cond, env) {
-            Some(true) => Done::Goes { label: None },
-            Some(false) => Done::Fails,
-            None => Done::Halts,
-        },
-        Act::Print { e } => match value(e, env) {
-            Some(value) => Done::Goes {
-                label: Some(Label::Print { value }),
-            },
-            None => Done::Halts,
-        },
-        _ => unreachable!(),
+        None => Turn::Halts { label: None },
+    }
+}
+
+fn returned(e: &Expr, env: &List<i64>) -> Turn
+    ensures { (p : Program) (reply : Reply) → Ends p (Act-F.Return e.now) env.now reply env.now (Done.Turns result) }
+{
+    match eval(e, env) {
+        Some(value) => Turn::Returns { value },
+        None => Turn::Halts { label: None },
+    }
+}
+
+fn called(
+    alloc: Global,
+    p: &Program,
+    target: Option<u32>,
+    proc: u32,
+    args: &List<Expr>,
+    env: &List<i64>,
+) -> Result<Done, AllocError>
+    ensures done { (reply : Reply) → IfOk result (Ends p.now (Act-F.Call target proc args.now) env.now reply env.now) }
+    ensures numbered { IfOk result IsNumbered }
+{
+    let Some(args) = arguments(alloc, p, proc, args.as_slice(), env)? else {
+        return Ok(halted());
+    };
+    match entered(alloc, p, proc, args, target)? {
+        Some(callee) => Ok(Done::Calls { callee }),
+        None => Ok(halted()),
+    }
+}
+
+fn forked(
+    alloc: Global,
+    p: &Program,
+    calls: &List<Called>,
+    env: &List<i64>,
+    reply: &Reply,
+) -> Result<Done, AllocError>
+    requires { CanNumber p.now (Act-F.Par calls.now) env.now reply.now }
+    ensures done { IfOk result (Ends p.now (Act-F.Par calls.now) env.now reply.now env.now) }
+    ensures numbered { IfOk result IsNumbered }
+{
+    if !are_possible(p, calls.as_slice(), env) {
+        return Ok(halted());
+    }
+    let Reply::Threads { first } = reply else {
+        return Ok(Done::Turns { turn: Turn::Fails });
+    };
+    let count = calls.len() as u32;
+    let children = Children {
+        first: *first,
+        count,
+    };
+    let label = Label::Fork {
+        children: numbers(alloc, children)?,
+    };
+    Ok(Done::Starts { children, label })
+}
+
+/// Makes a bank, whose variable is 0.
+fn banked(env: &mut List<i64>, slot: u32) -> Turn
+    ensures { (p : Program) (reply : Reply) → Ends p (Act-F.Bank slot) env.old reply env.new (Done.Turns result) }
+{
+    set(env, slot, 0);
+    Turn::Goes { label: None }
+}
+
+fn turns(turn: Turn) -> Result<Done, AllocError>
+    ensures { result ≡ Ok (Done.Turns turn) }
+{
+    Ok(Done::Turns { turn })
+}
+
+/// Makes the move of a statement: a variable is set in place. For want of memory nothing changes.
+pub fn carried_out(
+    alloc: Global,
+    p: &Program,
+    act: &Act,
+    env: &mut List<i64>,
+    reply: &Reply,
+) -> Result<Done, AllocError>
+    requires { CanNumber p.now (out-Act act.now) env.old reply.now }
+    ensures done { IfOk result (Ends p.now (out-Act act.now) env.old reply.now env.new) }
+    ensures numbered { IfOk result IsNumbered }
+    ensures entry { IfOk result (λ done. is_entry done ≡ true → act_grows (out-Act act.now) ≡ true) }
+    ensures unchanged { IfOk result (λ done. is_entry done ≡ true → env.new ≡ env.old) }
+    ensures memory { OnErr result (act_grows (out-Act act.now) ≡ true) }
+    ensures kept { OnErr result (env.new ≡ env.old) }
+{
+    match act {
+        Act::Set { slot, e } => turns(assigned(env, *slot, e)),
+        Act::AllocNa { slot } => turns(allocated(env, *slot, AllocKind::Na, reply)),
+        Act::AllocAt { slot, rmw, .. } => turns(allocated(env, *slot, kind_at(*rmw), reply)),
+        Act::Free { at } => turns(freed(at, env)),
+        Act::Load { slot, mode, at } => turns(loaded(env, *slot, *mode, at, reply)),
+        Act::Store { mode, at, e } => turns(stored(*mode, at, e, env)),
+        Act::Cas {
+            slot,
+            mode,
+            fail,
+            at,
+            old,
+            new,
+            ..
+        } => turns(exchanged(env, *slot, (*mode, *fail), at, old, new, reply)),
+        Act::Add {
+            slot,
+            mode,
+            at,
+            e,
+            ..
+        } => turns(added(env, *slot, *mode, at, e, reply)),
+        Act::Swap {
+            slot,
+            mode,
+            at,
+            e,
+            ..
+        } => turns(swapped(env, *slot, *mode, at, e, reply)),
+        Act::Call { slot, proc, args } => called(alloc, p, *slot, *proc, args, env),
+        Act::Par { calls } => forked(alloc, p, calls, env, reply),
+        Act::Fence { mode, .. } => turns(shown(Label::Fence { mode: *mode })),
+        Act::If { cond, .. } => Ok(branched(cond, env)),
+        Act::While { cond, .. } => Ok(repeated(cond, env)),
+        Act::Assert { cond } => turns(asserted(cond, env)),
+        Act::Print { e } => turns(printed(e, env)),
+        Act::Return { e } => turns(returned(e, env)),
+        Act::Bank { slot } => turns(banked(env, *slot)),
+        Act::Step { .. } => turns(Turn::Goes { label: None }),
     }
 }

@@ -7,15 +7,56 @@ ghost use Rattle.fsl_moves.specs.Configs.{config_of};
 use fsl_base::List;
 use fsl_core::Standing;
 
+/// A block of a statement.
+#[derive(Clone, Copy, Debug, PartialEq, Eq)]
+pub enum Arm {
+    /// The first block of an `if`.
+    Yes,
+    /// Its second block.
+    No,
+    /// The block of a loop.
+    Body,
+}
+
+/// A block that was entered: one of the statement with this number in the block around it.
+#[derive(Clone, Copy, Debug, PartialEq, Eq)]
+pub struct Entry {
+    pub stmt: usize,
+    pub arm: Arm,
+    /// The statement with which the block around goes on: a loop is made again, an `if` is done.
+    pub onward: usize,
+}
+
+/// A procedure that runs, by its number.
+#[derive(Drop)]
+pub struct Frame {
+    pub proc: u32,
+    /// The blocks that were entered, the innermost last.
+    pub path: Vec<Entry>,
+    /// The next statement of the innermost block.
+    pub at: usize,
+    /// The values of the variables.
+    pub env: List<i64>,
+    /// The variable of the caller that gets the result.
+    pub target: Option<u32>,
+}
+
+/// Threads that were started together: `count` of them, with the numbers from `first` on.
+#[derive(Clone, Copy, Debug, PartialEq, Eq)]
+pub struct Children {
+    pub first: u32,
+    pub count: u32,
+}
+
 /// Where a thread stands.
 #[derive(Drop)]
 pub enum Config {
-    /// In a procedure, by its number, before the statement `at` of its body, or at the end of the body.
-    /// The variables have the values `env`.
+    /// A procedure runs, above those that wait for it, the innermost last. It may wait for threads that it has
+    /// started.
     Running {
-        proc: u32,
-        at: usize,
-        env: List<i64>,
+        frame: Frame,
+        below: Vec<Frame>,
+        children: Option<Children>,
     },
     /// The thread has returned.
     Returned {
@@ -32,7 +73,13 @@ pub fn standing(c: &Config) -> Standing
     ensures { (p : Program) → standing_of (config_of p c.now) ≡ result }
 {
     match c {
-        Config::Running { .. } => Standing::Going,
+        Config::Running { children, .. } => match children {
+            None => Standing::Going,
+            Some(children) => Standing::Joining {
+                first: children.first,
+                count: children.count,
+            },
+        },
         Config::Returned { value } => Standing::Returned { value: *value },
         Config::Halted => Standing::Halted,
         Config::Failed => Standing::Failed,

@@ -1,12 +1,19 @@
-//! Moves of a thread of a straight program. A configuration keeps its place in the program and the values
-//! of the variables, so that a move takes no copies, and the time of its statement alone.
+//! Moves of a thread. A configuration keeps its places in the program and the values of the variables, so that a
+//! move takes no copies of statements, and the time of its statement and of the depth at which that stands.
 #![tactic(auto)]
 
+mod accesses;
 mod acts;
+mod calls;
 mod config;
+mod done;
+mod lists;
 mod moves;
+mod needs;
+mod places;
 #[cfg(test)]
 mod tests;
+mod turn;
 
-pub use config::{Config, standing};
+pub use config::{Arm, Children, Config, Entry, Frame, standing};
 pub use moves::{advance, next, start};

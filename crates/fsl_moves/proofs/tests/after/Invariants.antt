@@ -3,4 +3,4 @@ use Rattle.fsl_moves.specs.Configs.{Fits}
 use Rattle.fsl_moves.proofs.tests.after.Given as goal
 
 abbrev pub invariant-loop-move : goal.invariant-loop-move
-invariant-loop-move l = record { fits : Fits l.p l.c; labels : l.labels ≤ l._move }
+invariant-loop-move l = record { fits : Fits l.p l.c; labels : l.labels ≤ l._move; updates : l.updates ≤ l._move }

@@ -1,6 +1,6 @@
 use Rattle.std.proofs.Common.{◌≡◌, rules, ◌∙◌}
 use Rattle.fsl_machine.specs.declared.ends.Readiness.TheVariants as readiness
-use Rattle.fsl_machine.proofs.Steps.{shows_plain, steps_on, makes_next}
+use Rattle.fsl_machine.proofs.Steps.{shows_plain, steps_on, makes_next, asks_no_threads, names_no_threads, takes_none, meets}
 use Rattle.fsl_machine.proofs.machine.Machine.step.Goals as goal
 
 pub remember-requires-clause-plain : goal.remember-requires-clause-plain
@@ -26,3 +26,26 @@ returns-clause-step g c =
     c.shown.result c.args.self.now c.self.invariant c.self.view_is (c.readiness-why.ensures s.program ∙ ready) c.if-self.false c.asked-need.ensures
     (c.limit.ensures s.moves ∙ c.in_default.is)
     c.answer-reply.ensures c.shown.ensures c.in-Ok.ensures.grown c.go_on.ensures.moved
+
+pub asked-need-requires-clause-plain : goal.asked-need-requires-clause-plain
+asked-need-requires-clause-plain g c =
+    let s = c.self.inside in
+    let ready : c.readiness-why.result ≡ readiness.Ready = search rules in
+    asks_no_threads s.program s.bound s.config s.moves s.history c.self.invariant (c.readiness-why.ensures s.program ∙ ready)
+
+pub go_on-requires-clause-plain : goal.go_on-requires-clause-plain
+go_on-requires-clause-plain g c =
+    let s = c.self.inside in takes_none s.program s.bound s.config s.moves s.history c.self.invariant
+
+pub go_on-requires-clause-numbers : goal.go_on-requires-clause-numbers
+go_on-requires-clause-numbers g c =
+    let s = c.self.inside in
+    let ready : c.readiness-why.result ≡ readiness.Ready = search rules in
+    names_no_threads s.program s.bound s.config s.moves s.history c.answer-reply.result c.self.invariant (c.readiness-why.ensures s.program ∙ ready)
+
+pub returns-in-Some-clause-limit : goal.returns-in-Some-clause-limit
+returns-in-Some-clause-limit g c =
+    let s = c.self.inside in
+    let ready : c.readiness-why.result ≡ readiness.Ready = search rules in
+    meets s.program s.bound s.config s.moves s.history c.asked-need.result c.in-Some.kind c.args.self.now c.self.invariant c.self.view_is
+    (c.readiness-why.ensures s.program ∙ ready) c.if-self.false c.asked-need.ensures (c.limit.ensures s.moves ∙ c.in-Some.is)

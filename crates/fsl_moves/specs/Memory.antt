@@ -1,0 +1,42 @@
+-- Which moves may take memory.
+use Rattle.std.specs.Prelude.{Bool, true, false, List, [], ◌∷◌}
+use Rattle.fsl_core.specs.declared.act.Act.{Act}
+use Rattle.fsl_core.specs.declared.act.Act.TheOpen.{Act-F}
+use Rattle.fsl_core.specs.declared.act.Act.TheViews.{out-Act}
+use Rattle.fsl_core.specs.declared.act.Stmt.{Stmt}
+use Rattle.fsl_core.specs.declared.need.Need.{Need}
+use Rattle.fsl_core.specs.declared.need.Need.TheVariants as need
+use Rattle.fsl_core.specs.Moves.{Config, running, joining, returned, halted, failed}
+
+-- what is asked is a list
+abbrev pub is_list : Need → Bool
+is_list (need.Fork calls) = true
+is_list (need.Join children) = true
+is_list _ = false
+
+-- a read, a write, or both
+abbrev pub is_access : Need → Bool
+is_access (need.Load m l) = true
+is_access (need.Store m l v) = true
+is_access (need.Rmw m fail l op) = true
+is_access _ = false
+
+-- the move enters a block or a procedure, or starts threads
+abbrev pub act_grows : Act-F Act Stmt → Bool
+act_grows (Act-F.Call slot proc args) = true
+act_grows (Act-F.Par calls) = true
+act_grows (Act-F.If cond a b) = true
+act_grows (Act-F.While cond inv body) = true
+act_grows _ = false
+
+abbrev pub stmts_grow : List Stmt → Bool
+stmts_grow [] = false
+stmts_grow (stmt ∷ stmts) = act_grows (out-Act stmt.act)
+
+-- the next move enters a block or a procedure, or starts threads, or waits for some
+abbrev pub grows : Config → Bool
+grows (running f fs) = stmts_grow f.stmts
+grows (joining first count f fs) = true
+grows (returned v) = false
+grows halted = false
+grows failed = false
