@@ -1,8 +1,5 @@
 //! Values of expressions and conditions, at the edges of the range.
 
-ghost use Rattle.std.specs.Prelude.{IsTrue, IfOk};
-ghost use Rattle.fsl_core.specs.Values.{slots_below};
-
 use crate::building::one;
 use fsl_base::{Boxed, List};
 use fsl_core::{CmpOp, Cond, Expr, Part, eval, holds};
@@ -45,9 +42,7 @@ fn a_condition_compares_its_sides(rt: HostRuntime) {
 }
 
 // `l + r`, or `l - r`.
-fn sum(alloc: Global, l: i128, minus: bool, r: i128) -> Result<Expr, AllocError>
-    ensures { IfOk result (λ e. IsTrue (slots_below 0 e)) }
-{
+fn sum(alloc: Global, l: i128, minus: bool, r: i128) -> Result<Expr, AllocError> {
     let e = Expr::Const { n: l };
     let mut parts = one(alloc, Part { minus: false, e })?;
     let e = Expr::Const { n: r };
@@ -56,9 +51,7 @@ fn sum(alloc: Global, l: i128, minus: bool, r: i128) -> Result<Expr, AllocError>
 }
 
 // `-n`
-fn negation(alloc: Global, n: i128) -> Result<Expr, AllocError>
-    ensures { IfOk result (λ e. IsTrue (slots_below 0 e)) }
-{
+fn negation(alloc: Global, n: i128) -> Result<Expr, AllocError> {
     let e = Boxed::new(alloc, Expr::Const { n })?;
     Ok(Expr::Neg { e })
 }
