@@ -1,5 +1,5 @@
 -- A walk along the moves of a thread comes to the configuration before each event of it.
-use Rattle.std.proofs.Common.{◌≡◌, ℕ, zero, suc, Bool, true, false, ◌==◌, if◌then◌else◌, ◌⊎◌, inl, inr, List, [], ◌∷◌, Option, Some, None, slice_get, ℤ, pos, refl, sym, ap, subst, ◌∙◌, arith}
+use Rattle.std.proofs.Common.{◌≡◌, ℕ, Bool, true, false, ◌==◌, if◌then◌else◌, inl, inr, List, [], ◌∷◌, Option, Some, None, slice_get, ℤ, pos, refl, sym, ap, subst, ◌∙◌, arith}
 use Rattle.std.proofs.lemmas.Bool.{cases_Bool, eqb-true, eq-eqb}
 use Rattle.std.proofs.lemmas.Option.{slice_get_cases}
 use Rattle.fsl_core.specs.declared.act.Act.TheOpen.{Act-F}
@@ -25,7 +25,7 @@ use Rattle.fsl_graph.specs.Events.{Is}
 use Rattle.fsl_graph.specs.Sequenced.{In}
 use Rattle.fsl_graph.specs.Execution.{Runs, Answers, reply_of, events_of}
 use Rattle.fsl_graph.specs.Execution.Runs.{stands, silent, shows}
-use Rattle.fsl_graph.specs.Determined.{is_local, behind, before_from, config_before, IsBefore, ConfigsDetermined, Purpose, purpose_by, purpose_in, purpose_of, PurposesDetermined}
+use Rattle.fsl_graph.specs.Determined.{is_local, behind, before_from, ConfigsDetermined, Purpose, purpose_by, purpose_in, purpose_of, PurposesDetermined}
 use Rattle.fsl_graph.proofs.Numbered.{of_thread}
 use Rattle.fsl_graph.proofs.Keeping.{labels_are_asked, shown_isnt_local}
 use Rattle.fsl_graph.proofs.Threads.{one_event}
@@ -110,18 +110,20 @@ pub configs_determined : ConfigsDetermined
 configs_determined p g last x e y is = elim (slice_get_cases g.threads y.thread).1 [
   | inl h ↦
       let f = run_finds p g (start_of p h.0.proc h.0.args) (last y.thread) h.0.moves (events_of g y.thread) e y (x.moves y.thread h.0 h.2)
-          (of_thread y.thread 0 e e g.events y is refl (omega arith)) is in
-      (f.config, record {
-        before =
-            ap (λ (o : Option Event). with_value o (λ (z : Event). with_value (slice_get g.threads z.thread) (λ (thread : Thread).
-            before_from p g e (start_of p thread.proc thread.args) thread.moves (events_of g z.thread)))) is
-            ∙ ap (λ (o : Option Thread). with_value o (λ (thread : Thread).
-            before_from p g e (start_of p thread.proc thread.args) thread.moves (events_of g y.thread))) h.2
-            ∙ f.before;
-        next = f.next;
-        shows = f.shows;
-        answers = f.answers;
-      })
+      (of_thread y.thread 0 e e g.events y is refl (omega arith)) is in (
+        f.config,
+        record {
+          before =
+              ap (λ (o : Option Event). with_value o (λ (z : Event). with_value (slice_get g.threads z.thread) (λ (thread : Thread).
+              before_from p g e (start_of p thread.proc thread.args) thread.moves (events_of g z.thread)))) is
+              ∙ ap (λ (o : Option Thread). with_value o (λ (thread : Thread).
+              before_from p g e (start_of p thread.proc thread.args) thread.moves (events_of g y.thread))) h.2
+              ∙ f.before;
+          next = f.next;
+          shows = f.shows;
+          answers = f.answers;
+        },
+      )
   | inr h ↦ absurd (let l = h.0 in let b = x.known e y is in omega arith)
 ]
 

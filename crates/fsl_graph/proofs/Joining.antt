@@ -39,6 +39,6 @@ early_join_laws = record {
   };
   refused = λ p last x.
       let few = joins_wait_for_all p early_join last x 2 4 (does 0 (label.Fork (1 ∷ 2 ∷ []))) (does 0 (label.Join [])) (1 ∷ 2 ∷ []) [] refl refl refl refl
-          (inr (inr (inl (refl, refl)))) in
+      (inr (inr (inl (refl, refl)))) in
       absurd (cc);
 }

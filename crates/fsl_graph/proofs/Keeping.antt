@@ -1,5 +1,5 @@
 -- What the moves keep to, move by move.
-use Rattle.std.proofs.Common.{◌≡◌, ℕ, zero, suc, Bool, true, false, if◌then◌else◌, ◌⊎◌, inl, inr, List, [], ◌∷◌, length, Option, Some, None, slice_get, ℤ, pos, ◌+ℤ◌, int_eq, refl, sym, ap, subst, ◌∙◌}
+use Rattle.std.proofs.Common.{◌≡◌, ℕ, zero, suc, Bool, true, false, if◌then◌else◌, inl, inr, List, [], ◌∷◌, length, Option, Some, None, slice_get, ℤ, pos, ◌+ℤ◌, int_eq, refl, sym, ap, subst, ◌∙◌}
 use Rattle.fsl_core.specs.declared.act.Act.TheOpen.{Act-F}
 use Rattle.fsl_core.specs.declared.act.Act.{Act}
 use Rattle.fsl_core.specs.declared.act.Act.TheViews.{out-Act}
@@ -8,22 +8,19 @@ use Rattle.fsl_core.specs.declared.act.Stmt.{Stmt}
 use Rattle.fsl_core.specs.declared.label.Ended.{Ended}
 use Rattle.fsl_core.specs.declared.label.Label.{Label}
 use Rattle.fsl_core.specs.declared.label.Label.TheVariants as label
-use Rattle.fsl_core.specs.declared.mode.AllocKind.{AllocKind}
-use Rattle.fsl_core.specs.declared.mode.AllocKind.TheVariants as kind
 use Rattle.fsl_core.specs.declared.mode.Mode.{Mode}
 use Rattle.fsl_core.specs.declared.need.Need.{Need}
 use Rattle.fsl_core.specs.declared.need.Need.TheVariants as need
 use Rattle.fsl_core.specs.declared.need.Reply.{Reply}
 use Rattle.fsl_core.specs.declared.need.Reply.TheVariants as reply
-use Rattle.fsl_core.specs.declared.need.RmwOp.{RmwOp}
 use Rattle.fsl_core.specs.declared.need.RmwOp.TheVariants as op
 use Rattle.fsl_core.specs.declared.need.Started.{Started}
 use Rattle.fsl_core.specs.declared.declaration.Proc.{Proc}
 use Rattle.fsl_core.specs.Programs.{Program}
 use Rattle.fsl_core.specs.Values.{in_range, value_of, holds_of, with_value}
-use Rattle.fsl_core.specs.Moves.{Frame, Config, running, joining, returned, halted, failed, Moved, Move, showing, unlabelled, given, entered, read_reply, place_reply, threads_reply, results_reply, added, exchanged, reading_mode, numbers_from, joined_from, branching, after_assert, ending, returning, entering, calling, forking, allocating, kind_at, with_stmts, act_move, frame_move, move_of, need_of, moved, started_at, started_of, arguments_of}
+use Rattle.fsl_core.specs.Moves.{Frame, Config, running, joining, returned, halted, failed, Moved, Move, showing, unlabelled, given, entered, read_reply, place_reply, threads_reply, results_reply, added, exchanged, reading_mode, numbers_from, joined_from, branching, after_assert, returning, entering, calling, forking, with_stmts, act_move, frame_move, need_of, moved, started_of, arguments_of}
 use Rattle.fsl_graph.specs.Execution.{first_of}
-use Rattle.fsl_graph.specs.Keeping.{children_of, AsksUpdate, AsksFork, IsAsked, Leads, LabelsAreAsked, LabelsLead, JoinsWait, LocalKeepsChildren, WaitingJoins}
+use Rattle.fsl_graph.specs.Keeping.{children_of, IsAsked, Leads, LabelsAreAsked, LabelsLead, JoinsWait, LocalKeepsChildren, WaitingJoins}
 
 abbrev is_join : Label → Bool
 is_join (label.Join results) = true
@@ -189,6 +186,7 @@ joining_shows first count vs f fs l next h = subst (λ (m : Moved). Told m.label
     Told : Option Label → Config → Type 0
     Told None c = Unit {0}
     Told (Some k) c = Shows (numbers_from first count) (need.Join (numbers_from first count)) k c
+
     told : Told (Some (label.Join (joined_from first vs))) (running f fs)
     told = record { asked = (numbers_from first count, refl); leads = refl; joins = λ j. refl; waiting = λ w. (joined_from first vs, refl) }
 
@@ -241,4 +239,3 @@ local_keeps_children p (joining first count f fs) e = absurd (let q : need.Join 
 local_keeps_children p (returned v) e = absurd (let q : need.Returned v ≡ need.Local = e in cc)
 local_keeps_children p halted e = absurd (let q : need.Halted ≡ need.Local = e in cc)
 local_keeps_children p failed e = absurd (let q : need.Failed ≡ need.Local = e in cc)
-

@@ -1,32 +1,30 @@
 -- The statements that a thread has before it are statements of its program, so that its labels have their modes.
-use Rattle.std.proofs.Common.{◌≡◌, ℕ, zero, suc, Bool, true, false, ◌&&◌, if◌then◌else◌, ◌⊎◌, inl, inr, List, [], ◌∷◌, ◌++◌, map, Option, Some, None, slice_get, ℤ, pos, ◌+ℤ◌, int_eq, refl, sym, ap, subst, ◌∙◌, arith}
+use Rattle.std.proofs.Common.{◌≡◌, ℕ, zero, suc, Bool, true, false, ◌&&◌, if◌then◌else◌, inl, inr, List, [], ◌∷◌, ◌++◌, map, Option, Some, None, slice_get, ℤ, pos, ◌+ℤ◌, int_eq, refl, sym, ap, subst, ◌∙◌, arith}
 use Rattle.std.specs.List.{list_all, list_any}
 use Rattle.std.proofs.lemmas.Bool.{and_parts}
 use Rattle.std.proofs.lemmas.Option.{slice_get_cases}
 use Rattle.fsl_core.specs.declared.act.Act.TheOpen.{Act-F}
 use Rattle.fsl_core.specs.declared.act.Act.{Act}
-use Rattle.fsl_core.specs.declared.act.Act.TheFolds.{fold-Act, fold-Stmt, fold_out-Act, fold_out-Stmt, map-Act}
+use Rattle.fsl_core.specs.declared.act.Act.TheFolds.{fold-Stmt, fold_out-Act, fold_out-Stmt, map-Act}
 use Rattle.fsl_core.specs.declared.act.Act.TheViews.{out-Act}
 use Rattle.fsl_core.specs.declared.act.Stmt.{Stmt}
 use Rattle.fsl_core.specs.declared.label.Label.{Label}
 use Rattle.fsl_core.specs.declared.label.Label.TheVariants as label
 use Rattle.fsl_core.specs.declared.mode.Mode.{Mode}
 use Rattle.fsl_core.specs.declared.mode.Mode.TheVariants as mode
-use Rattle.fsl_core.specs.declared.need.Need.{Need}
-use Rattle.fsl_core.specs.declared.need.Need.TheVariants as need
 use Rattle.fsl_core.specs.declared.need.Reply.{Reply}
 use Rattle.fsl_core.specs.declared.need.Reply.TheVariants as reply
 use Rattle.fsl_core.specs.declared.need.Started.{Started}
 use Rattle.fsl_core.specs.declared.declaration.Proc.{Proc}
 use Rattle.fsl_core.specs.Programs.{Program}
 use Rattle.fsl_core.specs.Values.{in_range, value_of, holds_of}
-use Rattle.fsl_core.specs.Moves.{Frame, Config, running, joining, returned, halted, failed, Moved, Move, showing, unlabelled, given, entered, read_reply, place_reply, threads_reply, results_reply, added, exchanged, reading_mode, branching, after_assert, ending, returning, entering, calling, forking, with_stmts, set_target, act_move, frame_move, move_of, need_of, moved, started_at, start_of, started_of, arguments_of}
-use Rattle.fsl_core.specs.WellFormed.{is_well_formed, is_load_mode, is_store_mode, is_update_mode, is_failure_mode, is_fence_mode, inst_fits, inv_fits, asrt_fits, child_fits, call_fits, act_step, act_fits, stmt_fits, proc_fits, is_main}
+use Rattle.fsl_core.specs.Moves.{Frame, Config, running, joining, returned, halted, failed, Moved, Move, showing, given, entered, read_reply, place_reply, threads_reply, results_reply, added, reading_mode, branching, after_assert, returning, entering, calling, forking, with_stmts, set_target, act_move, frame_move, move_of, started_at, start_of, started_of, arguments_of}
+use Rattle.fsl_core.specs.WellFormed.{is_well_formed, is_load_mode, is_update_mode, is_failure_mode, is_fence_mode, inv_fits, asrt_fits, act_step, act_fits, stmt_fits, proc_fits, is_main}
 use Rattle.fsl_graph.specs.declared.event.Event.{Event}
 use Rattle.fsl_graph.specs.declared.graph.Graph.{Graph}
 use Rattle.fsl_graph.specs.Events.{Is}
 use Rattle.fsl_graph.specs.Sequenced.{In}
-use Rattle.fsl_graph.specs.Execution.{Runs, reply_of, events_of, IsExecution}
+use Rattle.fsl_graph.specs.Execution.{Runs, reply_of, events_of}
 use Rattle.fsl_graph.specs.Execution.Runs.{stands, silent, shows}
 use Rattle.fsl_graph.specs.Labels.{has_mode, LabelsHaveModes}
 use Rattle.fsl_graph.proofs.Numbered.{of_thread}

@@ -1,5 +1,5 @@
 -- The events of a thread, and what there is one of.
-use Rattle.std.proofs.Common.{◌≡◌, ◌<◌, ◌+◌, ℕ, zero, suc, Bool, true, false, if◌then◌else◌, ◌==◌, ◌⊎◌, inl, inr, List, [], ◌∷◌, length, map, Option, Some, None, slice_get, ℤ, subst, sym, refl, ap, ◌∙◌, arith}
+use Rattle.std.proofs.Common.{◌≡◌, ◌<◌, ℕ, suc, Bool, if◌then◌else◌, ◌==◌, inl, inr, List, [], ◌∷◌, map, Some, slice_get, subst, sym, refl, ap, ◌∙◌, arith}
 use Rattle.std.proofs.lemmas.Bool.{cases_Bool}
 use Rattle.std.proofs.lemmas.Option.{slice_get_cases}
 use Rattle.fsl_core.specs.declared.label.Ended.{Ended}
@@ -7,20 +7,18 @@ use Rattle.fsl_core.specs.declared.label.Label.{Label}
 use Rattle.fsl_core.specs.declared.label.Label.TheVariants as label
 use Rattle.fsl_core.specs.declared.need.Need.{Need}
 use Rattle.fsl_core.specs.declared.need.Need.TheVariants as need
-use Rattle.fsl_core.specs.declared.need.Reply.TheVariants as reply
 use Rattle.fsl_core.specs.Programs.{Program}
-use Rattle.fsl_core.specs.Moves.{Config, moved, need_of, showing, start_of}
+use Rattle.fsl_core.specs.Moves.{Config, moved, showing, start_of}
 use Rattle.fsl_graph.specs.declared.event.Event.{Event}
 use Rattle.fsl_graph.specs.declared.graph.Graph.{Graph}
-use Rattle.fsl_graph.specs.declared.graph.Thread.{Thread}
-use Rattle.fsl_graph.specs.Events.{Is, Touch, Touches, written_by}
+use Rattle.fsl_graph.specs.Events.{Is, Touches, written_by}
 use Rattle.fsl_graph.specs.Sequenced.{In, thread_of}
-use Rattle.fsl_graph.specs.Execution.{Runs, Answers, reply_of, numbered_of, events_of, IsThread}
+use Rattle.fsl_graph.specs.Execution.{Runs, Answers, reply_of, numbered_of, events_of}
 use Rattle.fsl_graph.specs.Execution.Runs.{stands, silent, shows}
-use Rattle.fsl_graph.specs.Safe.{access_by, Access, Accesses}
-use Rattle.fsl_graph.specs.Keeping.{children_of, Leads}
-use Rattle.fsl_graph.specs.Threads.{IsBelow, IsAscending, Ahead, IsNext, NumbersAscend, AllAhead, EachNumberIsOne, OneEvent, OneWrite, OneAccess, OneKind, JoinsWaitForAll}
-use Rattle.fsl_graph.proofs.Numbered.{IsOf, thread_of_number, of_thread}
+use Rattle.fsl_graph.specs.Safe.{access_by, Accesses}
+use Rattle.fsl_graph.specs.Keeping.{children_of}
+use Rattle.fsl_graph.specs.Threads.{IsBelow, IsAscending, IsNext, NumbersAscend, AllAhead, EachNumberIsOne, OneEvent, OneWrite, OneAccess, OneKind, JoinsWaitForAll}
+use Rattle.fsl_graph.proofs.Numbered.{thread_of_number, of_thread}
 use Rattle.fsl_graph.proofs.Keeping.{labels_lead, joins_wait, local_keeps_children}
 
 -- ---- numbers
@@ -42,9 +40,9 @@ pub numbers_ascend : NumbersAscend
 numbers_ascend t n [] = tt
 numbers_ascend t n (x ∷ xs) = elim (cases_Bool (x.thread == t)) [
   | inl a ↦ subst (λ (c : Bool). IsAscending (headed n (numbered_of t (suc n) xs) c)) (sym a) (
-      below_all n (numbered_of t (suc n) xs) (λ e i. let o = thread_of_number t (suc n) xs e i in let k = o.number in omega arith),
-      numbers_ascend t (suc n) xs,
-    )
+    below_all n (numbered_of t (suc n) xs) (λ e i. let o = thread_of_number t (suc n) xs e i in let k = o.number in omega arith),
+    numbers_ascend t (suc n) xs,
+  )
   | inr a ↦ subst (λ (c : Bool). IsAscending (headed n (numbered_of t (suc n) xs) c)) (sym a) (numbers_ascend t (suc n) xs)
 ]
 
@@ -66,7 +64,7 @@ all_ahead g done t none = record {
 -- ---- one of each
 
 pub each_number_is_one : EachNumberIsOne
-each_number_is_one g e l = elim (slice_get_cases g.events e).1 [ | inl h ↦ (h.0, h.2) | inr h ↦ absurd (let k = h.0 in omega arith) ]
+each_number_is_one g e l = elim (slice_get_cases g.events e).1 [ inl h ↦ (h.0, h.2) | inr h ↦ absurd (let k = h.0 in omega arith) ]
 
 pub one_event : OneEvent
 one_event g e x y p q = let f : Some x ≡ Some y = sym p ∙ q in cc

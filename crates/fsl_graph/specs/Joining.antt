@@ -1,5 +1,5 @@
 -- A Join that waits for too few: a graph that nothing else refuses, and that races.
-use Rattle.std.specs.Prelude.{ℕ, [], ◌∷◌, ◌++◌, pos}
+use Rattle.std.specs.Prelude.{ℕ, [], ◌∷◌, pos}
 use Rattle.fsl_core.specs.declared.label.Label.TheVariants as label
 use Rattle.fsl_core.specs.declared.mode.AllocKind.TheVariants as kind
 use Rattle.fsl_core.specs.declared.mode.Mode.TheVariants as mode

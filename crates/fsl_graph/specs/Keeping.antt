@@ -1,6 +1,6 @@
 -- What the moves of a thread keep to, whatever the program and the answers: the label that a move shows is of the
 -- kind that it asked for, a Fork leads to where its children are waited for, and an End is the last move.
-use Rattle.std.specs.Prelude.{ℕ, ◌≡◌, ◌⊎◌, List, [], length, Option, Some, None, ℤ}
+use Rattle.std.specs.Prelude.{ℕ, ◌≡◌, ◌⊎◌, List, [], length, ℤ}
 use Rattle.fsl_core.specs.declared.label.Ended.{Ended}
 use Rattle.fsl_core.specs.declared.label.Label.{Label}
 use Rattle.fsl_core.specs.declared.label.Label.TheVariants as label

@@ -1,28 +1,25 @@
 -- Graphs that are executions but for one thing.
-use Rattle.std.proofs.Common.{◌≡◌, ◌<◌, ℕ, zero, suc, inl, inr, List, [], ◌∷◌, drop, Option, Some, None, slice_get, ℤ, ◌<ℤ◌, pos, refl, sym, ap, subst, ◌∙◌, arith}
+use Rattle.std.proofs.Common.{◌≡◌, ◌<◌, ℕ, zero, suc, inl, inr, List, [], ◌∷◌, drop, Some, None, slice_get, ℤ, ◌<ℤ◌, pos, refl, sym, ap, subst, ◌∙◌, arith}
 use Rattle.std.proofs.lemmas.Int.{ints}
 use Rattle.fsl_core.specs.declared.act.Act.TheBlock.{shown-the_row-Stmt-0}
 use Rattle.fsl_core.specs.declared.act.Act.TheViews.{roll-Act, out-Act}
-use Rattle.fsl_core.specs.declared.act.Stmt.{Stmt}
-use Rattle.fsl_core.specs.declared.label.Label.{Label}
 use Rattle.fsl_core.specs.declared.label.Label.TheVariants as label
-use Rattle.fsl_core.specs.declared.mode.AllocKind.{AllocKind}
 use Rattle.fsl_core.specs.declared.mode.AllocKind.TheVariants as kind
 use Rattle.fsl_core.specs.declared.need.Need.{Need}
 use Rattle.fsl_core.specs.declared.need.Need.TheVariants as need
 use Rattle.fsl_core.specs.declared.need.Reply.TheVariants as reply
 use Rattle.fsl_core.specs.Programs.{Program}
-use Rattle.fsl_core.specs.Moves.{Config, running, joining, returned, showing, moved, need_of, start_of, Values}
+use Rattle.fsl_core.specs.Moves.{Config, running, joining, showing, moved, need_of, start_of}
 use Rattle.fsl_graph.specs.declared.event.Event.{Event}
 use Rattle.fsl_graph.specs.declared.graph.Graph.{Graph}
 use Rattle.fsl_graph.specs.declared.graph.Thread.{Thread}
 use Rattle.fsl_graph.specs.Events as events
 use Rattle.fsl_graph.specs.Sequenced.{In}
 use Rattle.fsl_graph.specs.Graphs.{does}
-use Rattle.fsl_graph.specs.Execution.{Runs, Answers, events_of, IsThread, RunsMain, Starts, Awaits, Allocates, JoinedReturn, ArePositive, IsDistinct, ThreadsMove}
+use Rattle.fsl_graph.specs.Execution.{Runs, Answers, events_of, IsThread, RunsMain, Starts, JoinedReturn, ArePositive, IsDistinct, ThreadsMove}
 use Rattle.fsl_graph.specs.Execution.Runs.{stands, silent, shows}
 use Rattle.fsl_graph_examples.specs.Executions.{nesting, allocating, allocations, runs}
-use Rattle.fsl_graph_examples.specs.Alone.{Asked, Is, main, forked, first, once, known, moves, joined, positive, distinct, Alone, at_start, ended_frame, no_thread, stray, own_child, waits_for, two_parents, no_such_thread, no_move, not_returned, child_at_start, nowhere, made_twice, with_left, EachAloneRefuses}
+use Rattle.fsl_graph_examples.specs.Alone.{Asked, Is, main, forked, first, once, known, moves, joined, positive, distinct, at_start, ended_frame, no_thread, stray, own_child, waits_for, two_parents, no_such_thread, no_move, not_returned, child_at_start, nowhere, made_twice, with_left, EachAloneRefuses}
 use Rattle.fsl_graph_examples.proofs.Runs.{run_of}
 use Rattle.fsl_graph_examples.proofs.Testing.{starts_none, awaits_none, allocates_none}
 
@@ -226,7 +223,7 @@ starts_first zero t s =
 starts_first (suc zero) t s =
     let i = s.is in
     absurd (
-      let same : does 0 (label.Join (record { thread = 1; value = pos 0 } ∷ [])) ≡ s.event = let g : Some (does 0 (label.Join (record { thread = 1; value = pos 0 } ∷ []))) ≡ Some s.event = i in cc in
+    let same : does 0 (label.Join (record { thread = 1; value = pos 0 } ∷ [])) ≡ s.event = let g : Some (does 0 (label.Join (record { thread = 1; value = pos 0 } ∷ []))) ≡ Some s.event = i in cc in
     let f : label.Join (record { thread = 1; value = pos 0 } ∷ []) ≡ label.Fork s.children = ap (λ (o : Event). o.label) same ∙ s.forks in cc)
 starts_first (suc (suc e)) t s = absurd (let i = s.is in let f : None ≡ Some s.event = i in cc)
 

@@ -1,15 +1,11 @@
 -- The counter's execution: move by move, and by tests of its graph.
-use Rattle.std.proofs.Common.{◌≡◌, ◌<◌, ℕ, zero, suc, Bool, true, false, not, ◌&&◌, ◌||◌, nat_lt, inl, inr, List, [], ◌∷◌, drop, length, map, Option, Some, None, is_some, slice_get, ℤ, ◌<ℤ◌, ◌+ℤ◌, pos, ◌⊎◌, refl, sym, ap, subst, ◌∙◌, arith, int_eq}
+use Rattle.std.proofs.Common.{◌≡◌, ◌<◌, ℕ, zero, suc, Bool, true, false, ◌&&◌, nat_lt, inl, inr, List, [], ◌∷◌, drop, Option, Some, None, is_some, slice_get, ℤ, ◌<ℤ◌, ◌+ℤ◌, pos, ◌⊎◌, refl, sym, ap, subst, ◌∙◌, arith, int_eq}
 use Rattle.std.proofs.lemmas.Bool.{and_parts, ltb-true}
 use Rattle.std.proofs.lemmas.Int.{ints}
 use Rattle.std.proofs.lemmas.Bool.Decides.{Decides-int_eq}
-use Rattle.fsl_core.specs.declared.act.Act.{Act}
 use Rattle.fsl_core.specs.declared.act.Act.TheBlock.{shown-the_row-Stmt-0}
-use Rattle.fsl_core.specs.declared.act.Act.TheOpen.{Act-F}
 use Rattle.fsl_core.specs.declared.act.Act.TheViews.{roll-Act, out-Act}
 use Rattle.fsl_core.specs.declared.act.Called.{Called}
-use Rattle.fsl_core.specs.declared.act.Stmt.{Stmt}
-use Rattle.fsl_core.specs.declared.expr.Expr.{Expr}
 use Rattle.fsl_core.specs.declared.expr.Expr.TheOpen.{Expr-F}
 use Rattle.fsl_core.specs.declared.expr.Expr.TheFolds.{fold-roll-Expr}
 use Rattle.fsl_core.specs.declared.label.Ended.{Ended}
@@ -17,7 +13,6 @@ use Rattle.fsl_core.specs.declared.label.Label.{Label}
 use Rattle.fsl_core.specs.declared.label.Label.TheVariants as label
 use Rattle.fsl_core.specs.declared.mode.AllocKind.{AllocKind}
 use Rattle.fsl_core.specs.declared.mode.AllocKind.TheVariants as kind
-use Rattle.fsl_core.specs.declared.mode.Mode.{Mode}
 use Rattle.fsl_core.specs.declared.mode.Mode.TheVariants as mode
 use Rattle.fsl_core.specs.declared.need.Need.{Need}
 use Rattle.fsl_core.specs.declared.need.Need.TheVariants as need
@@ -27,23 +22,22 @@ use Rattle.fsl_core.specs.declared.need.RmwOp.TheVariants as op
 use Rattle.fsl_core.specs.declared.need.Started.{Started}
 use Rattle.fsl_core.specs.Programs.{Program}
 use Rattle.fsl_core.specs.Values.{value_of, value_step, part_step, Value, in_range, with_value}
-use Rattle.fsl_core.specs.Moves.{Frame, Config, running, joining, returned, failed, showing, moved, need_of, start_of, Values, Moved, Move, act_move, move_of, started_of, with_stmts, set_var, added, read_reply, reading_mode, given, forking}
+use Rattle.fsl_core.specs.Moves.{Config, running, joining, returned, showing, moved, need_of, start_of, Move, move_of, started_of, added, read_reply, given, forking}
 use Rattle.fsl_graph.specs.declared.event.Event.{Event}
-use Rattle.fsl_graph.specs.declared.graph.Graph.{Graph}
 use Rattle.fsl_graph.specs.declared.graph.Thread.{Thread}
 use Rattle.fsl_graph.specs.Events.{Is, read_by, Touch}
 use Rattle.fsl_graph.specs.Sequenced.{In}
 use Rattle.fsl_graph.specs.Graphs.{does, reads, load, store}
-use Rattle.fsl_graph.specs.Execution.{Runs, Answers, IsThread, Starts, Awaits, Allocates, events_of, reply_of}
-use Rattle.fsl_graph.specs.Execution.Runs.{stands, silent, shows}
-use Rattle.fsl_graph.specs.Safe.{access_by, Access, Accesses, IsAccess, IsAllocated, IsFreed, IsRace, IsSafe}
+use Rattle.fsl_graph.specs.Execution.{Runs, Answers, IsThread, Starts, Awaits, Allocates, events_of}
+use Rattle.fsl_graph.specs.Execution.Runs.{stands, shows}
+use Rattle.fsl_graph.specs.Safe.{access_by, Access, Accesses, IsAccess, IsAllocated, IsSafe}
 use Rattle.fsl_graph.proofs.Every.{every, every_at}
 use Rattle.fsl_graph.proofs.Possible.{possible}
 use Rattle.fsl_graph.proofs.Threads.{one_event}
 use Rattle.fsl_judged.specs.Words.{num, var, thread as calls}
 use Rattle.fsl_graph_examples.specs.Counted.{CountedIsExecution}
-use Rattle.fsl_graph_examples.specs.Executions.{counting, counting_from_0, adding, seeing, runs, counted, all_returned}
-use Rattle.fsl_graph_examples.proofs.Testing.{is_fork, is_join, is_alloc, none, none_is, starts_none, only_at, only_is}
+use Rattle.fsl_graph_examples.specs.Executions.{counting, counting_from_0, runs, counted, all_returned}
+use Rattle.fsl_graph_examples.proofs.Testing.{is_fork, is_join, is_alloc, none, none_is, only_is}
 use Rattle.fsl_graph_examples.proofs.Runs.{run_of}
 
 -- ---- values
@@ -219,7 +213,7 @@ allocates_at : (e : ℕ) (k : AllocKind) (l : ℤ) → Allocates counted e k l �
 allocates_at e k l a =
     let at : e ≡ 0 = only_is is_alloc 0 counted e a.event refl a.is (ap is_alloc a.allocates) in
     let same : does 0 (label.Alloc kind.Rmw (pos 1)) ≡ a.event =
-        one_event counted 0 (does 0 (label.Alloc kind.Rmw (pos 1))) a.event refl (subst (λ (n : ℕ). Is counted n a.event) at a.is) in
+    one_event counted 0 (does 0 (label.Alloc kind.Rmw (pos 1))) a.event refl (subst (λ (n : ℕ). Is counted n a.event) at a.is) in
     let f : label.Alloc kind.Rmw (pos 1) ≡ label.Alloc k l = ap (λ (x : Event). x.label) same ∙ a.allocates in
     (at, cc, cc)
 

@@ -10,4 +10,3 @@ use Rattle.fsl_graph.specs.Execution.{Runs, IsThread}
 pub run_of : (p : Program) (g : Graph) (es : List ℕ) (last : Config) (t : ℕ) (a b : Thread) → IsThread g t a → IsThread g t b → Runs p g (start_of p a.proc a.args) a.moves es last
     → Runs p g (start_of p b.proc b.args) b.moves es last
 run_of p g es last t a b i j r = let e : Some a ≡ Some b = sym i ∙ j in let same : a ≡ b = cc in subst (λ (z : Thread). Runs p g (start_of p z.proc z.args) z.moves es last) same r
-

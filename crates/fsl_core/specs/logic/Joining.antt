@@ -7,7 +7,7 @@ use Rattle.fsl_core.specs.declared.mode.Rung.{Rung}
 use Rattle.fsl_core.specs.logic.States.{Rule, Action, ◌>>=◌, ◌>>◌, give, done, look}
 use Rattle.fsl_core.specs.logic.Terms.{fitting}
 use Rattle.fsl_core.specs.logic.Deciding.{assume_at_most, assume_equal}
-use Rattle.fsl_core.specs.logic.Chunks.{Found, find, put, add, Cell, Leave, leave, Count, cell_chunk, cell_at, init_at, rel_of, rmw_of, tokens_of, authority_of}
+use Rattle.fsl_core.specs.logic.Chunks.{Found, find, put, add, Cell, Leave, Count, cell_chunk, cell_at, init_at, rel_of, rmw_of, tokens_of, authority_of}
 use Rattle.fsl_lin.specs.Combination.{Combination, plus, constant}
 
 -- all shares of a cell
