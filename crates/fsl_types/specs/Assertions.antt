@@ -5,6 +5,7 @@ use Rattle.std.specs.List.{list_any}
 use Rattle.fsl_base.specs.declared.span.Span.{Span}
 use Rattle.fsl_core.specs.declared.assertion.Asrt.{Asrt}
 use Rattle.fsl_core.specs.declared.assertion.Asrt.TheVariants as asrt
+use Rattle.fsl_core.specs.declared.assertion.Inst.{Inst}
 use Rattle.fsl_core.specs.declared.assertion.Pat.{Pat}
 use Rattle.fsl_core.specs.declared.assertion.Pat.TheVariants as pat
 use Rattle.fsl_core.specs.declared.expr.Expr.{Expr}
@@ -13,6 +14,7 @@ use Rattle.fsl_tree.specs.declared.assertion.Assertion.{Assertion}
 use Rattle.fsl_tree.specs.declared.assertion.Atom.{Atom}
 use Rattle.fsl_tree.specs.declared.assertion.Atom.TheFolds.{fold-Atom, fold-Assertion, fold-Conjunct}
 use Rattle.fsl_tree.specs.declared.assertion.Atom.TheOpen.{Atom-F, Assertion-F, Conjunct-F}
+use Rattle.fsl_tree.specs.declared.assertion.Atom.TheViews.{out-Atom}
 use Rattle.fsl_tree.specs.declared.assertion.BankWord.{BankWord}
 use Rattle.fsl_tree.specs.declared.assertion.BankWord.TheVariants as bank_words
 use Rattle.fsl_tree.specs.declared.assertion.Conjunct.{Conjunct}
@@ -32,62 +34,62 @@ use Rattle.fsl_types.specs.declared.occurrence.Due.TheVariants as due
 use Rattle.fsl_types.specs.declared.occurrence.Occurrence.TheVariants as occurrence
 use Rattle.fsl_types.specs.declared.variable.Signature.{Signature}
 use Rattle.fsl_types.specs.declared.variable.Sort.TheVariants as sorts
-use Rattle.fsl_types.specs.declared.walk.Walk.{Walk}
+use Rattle.fsl_types.specs.declared.resolver.Resolver.{Resolver}
 use Rattle.fsl_types.specs.Expressions.{Judged, Sight, arguments_of, condition_of, expression_of, instance_of, judged_condition, judged_excluded, judged_name, judged_number, judged_use, numbered_arguments, signature_at}
 use Rattle.fsl_types.specs.Given.{Given}
 use Rattle.fsl_types.specs.Names.{Signatures, slot_at}
-use Rattle.fsl_types.specs.Walks.{Made, declared, judging, leaving, noted}
+use Rattle.fsl_types.specs.Resolvers.{Made, declared, judging, leaving, noted}
 
-abbrev pub sight : Given → Bool → Walk → Sight
-sight given in_ensures walk = record { bytes = given.bytes; names = walk.names; in_ensures = in_ensures }
+abbrev pub sight : Given → Bool → Resolver → Sight
+sight given in_ensures resolver = record { bytes = given.bytes; names = resolver.names; in_ensures = in_ensures }
 
-abbrev pub number_in : Given → Walk → Expression → Expr
-number_in given walk e = expression_of given.bytes walk.names e
+abbrev pub number_in : Given → Resolver → Expression → Expr
+number_in given resolver e = expression_of given.bytes resolver.names e
 
 -- what a part of an assertion makes, in its setting
 abbrev pub Reads : Type 0
-Reads = Setting → Walk → Made Asrt
+Reads = Setting → Resolver → Made Asrt
 
 -- the names that a part declares go at its end
 abbrev pub apart : Reads → Reads
-apart reads setting walk =
-    let inside = reads setting walk in record { made = inside.made; walk = leaving (length walk.names) inside.walk }
+apart reads setting resolver =
+    let inside = reads setting resolver in record { made = inside.made; resolver = leaving (length resolver.names) inside.resolver }
 
 -- inside a modality there is no other
 abbrev pub unmodal : Setting → Setting
 unmodal setting = record setting { modal = false }
 
-abbrev pub modality : Span → Setting → Walk → Walk
+abbrev pub modality : Span → Setting → Resolver → Resolver
 modality word setting = judging (noted (occurrence.Modality word setting.modal))
 
 abbrev pub full_share : Expr
 full_share = expr.Const (pos (2 ^ 63))
 
-abbrev pub share_of : Given → Walk → Option Share → Expr
-share_of given walk None = full_share
-share_of given walk (Some share) = number_in given walk share.amount
+abbrev pub share_of : Given → Resolver → Option Share → Expr
+share_of given resolver None = full_share
+share_of given resolver (Some share) = number_in given resolver share.amount
 
 abbrev pub judged_share : Sight → Option Share → Judged
 judged_share sight None faults = faults
 judged_share sight (Some share) faults = judged_number sight share.amount faults
 
 -- the value of a cell: a binder is declared behind its atom
-abbrev pub pattern : Given → Setting → Pattern → Walk → Made Pat
-pattern given setting (patterns.Any place) walk = record { made = pat.Any; walk = walk }
-pattern given setting (patterns.Binder mark name) walk =
-    record { made = pat.Bind walk.slots; walk = declared 256 given.bytes name sorts.Local walk }
-pattern given setting (patterns.Value value) walk =
-    record { made = pat.Is (number_in given walk value); walk = judging (judged_number (sight given setting.in_ensures walk) value) walk }
+abbrev pub pattern : Given → Setting → Pattern → Resolver → Made Pat
+pattern given setting (patterns.Any place) resolver = record { made = pat.Any; resolver = resolver }
+pattern given setting (patterns.Binder mark name) resolver =
+    record { made = pat.Bind resolver.slots; resolver = declared 256 given.bytes name sorts.Local resolver }
+pattern given setting (patterns.Value value) resolver =
+    record { made = pat.Is (number_in given resolver value); resolver = judging (judged_number (sight given setting.in_ensures resolver) value) resolver }
 
-abbrev pub relation : Given → Setting → Expression → Relation → Walk → Made Asrt
-relation given setting left (relations.Compared comparison right) walk = record {
-  made = asrt.Fact (condition_of given.bytes walk.names (conditions.Compared left comparison right));
-  walk = judging (judged_condition (sight given setting.in_ensures walk) (conditions.Compared left comparison right)) walk;
+abbrev pub relation : Given → Setting → Expression → Relation → Resolver → Made Asrt
+relation given setting left (relations.Compared comparison right) resolver = record {
+  made = asrt.Fact (condition_of given.bytes resolver.names (conditions.Compared left comparison right));
+  resolver = judging (judged_condition (sight given setting.in_ensures resolver) (conditions.Compared left comparison right)) resolver;
 }
-relation given setting left (relations.PointsTo arrow share value) walk =
-    let judged = judging (λ faults. judged_share (sight given setting.in_ensures walk) share (judged_number (sight given setting.in_ensures walk) left faults)) walk in
+relation given setting left (relations.PointsTo arrow share value) resolver =
+    let judged = judging (λ faults. judged_share (sight given setting.in_ensures resolver) share (judged_number (sight given setting.in_ensures resolver) left faults)) resolver in
     let behind = pattern given setting value judged in
-    record { made = asrt.Points (number_in given walk left) (share_of given walk share) behind.made; walk = behind.walk }
+    record { made = asrt.Points (number_in given resolver left) (share_of given resolver share) behind.made; resolver = behind.resolver }
 
 -- the number of a part, as far as an invariant can have one
 abbrev pub part_number : ℕ → ℕ
@@ -108,58 +110,70 @@ judged_acquire seen invariants location u part value excluded faults =
     noted (occurrence.PartNumber part value (last_part_of (signature_at seen.bytes invariants u.name))) (
     judged_permission seen invariants location u faults))
 
-abbrev pub tokens : Given → Walk → BankWord → Span → Expression → Asrt
-tokens given walk (bank_words.Tok place) bank amount = asrt.Tok (slot_at given.bytes walk.names bank) (number_in given walk amount)
-tokens given walk (bank_words.Auth place) bank amount = asrt.Auth (slot_at given.bytes walk.names bank) (number_in given walk amount)
+abbrev pub tokens : Given → Resolver → BankWord → Span → Expression → Asrt
+tokens given resolver (bank_words.Tok place) bank amount = asrt.Tok (slot_at given.bytes resolver.names bank) (number_in given resolver amount)
+tokens given resolver (bank_words.Auth place) bank amount = asrt.Auth (slot_at given.bytes resolver.names bank) (number_in given resolver amount)
 
 abbrev pub judged_tokens : Sight → Span → Expression → Judged
 judged_tokens seen bank amount faults = judged_number seen amount (judged_name seen due.Bank bank faults)
 
 -- an arm is read apart from the other
 abbrev pub choice : Given → Condition → Reads → Reads → Reads
-choice given condition first second setting walk =
-    let judged = judging (judged_condition (sight given setting.in_ensures walk) condition) walk in
+choice given condition first second setting resolver =
+    let judged = judging (judged_condition (sight given setting.in_ensures resolver) condition) resolver in
     let one = apart first setting judged in
-    let other = apart second setting one.walk in
-    record { made = asrt.Choice (condition_of given.bytes walk.names condition) one.made other.made; walk = other.walk }
+    let other = apart second setting one.resolver in
+    record { made = asrt.Choice (condition_of given.bytes resolver.names condition) one.made other.made; resolver = other.resolver }
+
+-- inside a modality, which makes an assertion of the one that it holds
+abbrev pub modal : Span → (Asrt → Asrt) → Reads → Reads
+modal word make inside setting resolver =
+    let read = apart inside (unmodal setting) (modality word setting resolver) in record { made = make read.made; resolver = read.resolver }
+
+-- a part that declares nothing
+abbrev pub declares_nothing : (Resolver → Asrt) → (Sight → Judged) → Given → Reads
+declares_nothing make judged given setting resolver =
+    record { made = make resolver; resolver = judging (judged (sight given setting.in_ensures resolver)) resolver }
+
+abbrev pub invariant_used : Given → Resolver → Use → Inst
+invariant_used given resolver u = instance_of given.bytes given.invariants resolver.names u
+
+abbrev pub acquire : Given → Expression → Use → ℕ → Option Arguments → Resolver → Asrt
+acquire given location u value excluded resolver =
+    asrt.Acq (number_in given resolver location) (invariant_used given resolver u) (part_number value) (numbered_arguments given.bytes resolver.names excluded)
+
+-- the use of a predicate is replaced by its body before names are judged
+abbrev pub empty : Reads
+empty setting resolver = record { made = asrt.Emp; resolver = resolver }
 
 abbrev pub atom_step : Given → Atom-F Reads Reads Reads → Reads
-atom_step given (Atom-F.Empty word) setting walk = record { made = asrt.Emp; walk = walk }
-atom_step given (Atom-F.Choice word start condition end first_start first first_end otherwise second_start second second_end) setting walk =
-    choice given condition first second setting walk
-atom_step given (Atom-F.Up word start inside end) setting walk =
-    let read = apart inside (unmodal setting) (modality word setting walk) in record { made = asrt.Up read.made; walk = read.walk }
-atom_step given (Atom-F.Down word start inside end) setting walk =
-    let read = apart inside (unmodal setting) (modality word setting walk) in record { made = asrt.Down read.made; walk = read.walk }
-atom_step given (Atom-F.Init word start location end) setting walk =
-    record { made = asrt.Init (number_in given walk location); walk = judging (judged_number (sight given setting.in_ensures walk) location) walk }
-atom_step given (Atom-F.Rel word start location comma invariant end) setting walk = record {
-  made = asrt.Rel (number_in given walk location) (instance_of given.bytes given.invariants walk.names invariant);
-  walk = judging (judged_permission (sight given setting.in_ensures walk) given.invariants location invariant) walk;
-}
-atom_step given (Atom-F.RmwAcq word start location comma invariant end) setting walk = record {
-  made = asrt.RmwAcq (number_in given walk location) (instance_of given.bytes given.invariants walk.names invariant);
-  walk = judging (judged_permission (sight given setting.in_ensures walk) given.invariants location invariant) walk;
-}
-atom_step given (Atom-F.Acq word start location use_comma invariant part_comma part value set_comma set_start excluded set_end end) setting walk = record {
-  made = asrt.Acq (number_in given walk location) (instance_of given.bytes given.invariants walk.names invariant) (part_number value) (numbered_arguments given.bytes walk.names excluded);
-  walk = judging (judged_acquire (sight given setting.in_ensures walk) given.invariants location invariant part value excluded) walk;
-}
-atom_step given (Atom-F.Bank word start bank comma amount end) setting walk = record {
-  made = tokens given walk word bank amount;
-  walk = judging (judged_tokens (sight given setting.in_ensures walk) bank amount) walk;
-}
-atom_step given (Atom-F.Related left how) setting walk = relation given setting left how walk
--- the use of a predicate is replaced by its body before names are judged
-atom_step given (Atom-F.Predicate predicate) setting walk = record { made = asrt.Emp; walk = walk }
+atom_step given (Atom-F.Empty word) = empty
+atom_step given (Atom-F.Choice word start condition end first_start first first_end otherwise second_start second second_end) =
+    choice given condition first second
+atom_step given (Atom-F.Up word start inside end) = modal word asrt.Up inside
+atom_step given (Atom-F.Down word start inside end) = modal word asrt.Down inside
+atom_step given (Atom-F.Init word start location end) =
+    declares_nothing (λ resolver. asrt.Init (number_in given resolver location)) (λ seen. judged_number seen location) given
+atom_step given (Atom-F.Rel word start location comma u end) =
+    declares_nothing (λ resolver. asrt.Rel (number_in given resolver location) (invariant_used given resolver u))
+    (λ seen. judged_permission seen given.invariants location u) given
+atom_step given (Atom-F.RmwAcq word start location comma u end) =
+    declares_nothing (λ resolver. asrt.RmwAcq (number_in given resolver location) (invariant_used given resolver u))
+    (λ seen. judged_permission seen given.invariants location u) given
+atom_step given (Atom-F.Acq word start location use_comma u part_comma part value set_comma set_start excluded set_end end) =
+    declares_nothing (acquire given location u value excluded) (λ seen. judged_acquire seen given.invariants location u part value excluded) given
+atom_step given (Atom-F.Bank word start bank comma amount end) =
+    declares_nothing (λ resolver. tokens given resolver word bank amount) (λ seen. judged_tokens seen bank amount) given
+atom_step given (Atom-F.Related left how) = λ setting resolver. relation given setting left how resolver
+atom_step given (Atom-F.Predicate predicate) = empty
 
 -- several parts, each after the one before it
-abbrev pub each : List Reads → Setting → Walk → Made (List Asrt)
-each [] setting walk = record { made = []; walk = walk }
-each (r ∷ rs) setting walk =
-    let first = r setting walk in
-    let others = each rs setting first.walk in
-    record { made = first.made ∷ others.made; walk = others.walk }
+abbrev pub each : List Reads → Setting → Resolver → Made (List Asrt)
+each [] setting resolver = record { made = []; resolver = resolver }
+each (r ∷ rs) setting resolver =
+    let first = r setting resolver in
+    let others = each rs setting first.resolver in
+    record { made = first.made ∷ others.made; resolver = others.resolver }
 
 -- one part is no conjunction
 abbrev pub both_of : Asrt → List Asrt → Asrt
@@ -167,10 +181,10 @@ both_of first [] = first
 both_of first (a ∷ more) = asrt.Both (first ∷ a ∷ more)
 
 abbrev pub assertion_step : Assertion-F Reads Reads Reads → Reads
-assertion_step a setting walk =
-    let first = a.first setting walk in
-    let others = each a.more setting first.walk in
-    record { made = both_of first.made others.made; walk = others.walk }
+assertion_step a setting resolver =
+    let first = a.first setting resolver in
+    let others = each a.more setting first.resolver in
+    record { made = both_of first.made others.made; resolver = others.resolver }
 
 abbrev pub conjunct_step : Conjunct-F Reads Reads Reads → Reads
 conjunct_step c = c.atom
@@ -186,8 +200,20 @@ conjunct given = fold-Conjunct Reads Reads Reads (atom_step given) assertion_ste
 
 -- an absent clause is `emp`
 abbrev pub clause : Given → Option Clause → Reads
-clause given None setting walk = record { made = asrt.Emp; walk = walk }
-clause given (Some c) setting walk = assertion given c.assertion setting walk
+clause given None setting resolver = record { made = asrt.Emp; resolver = resolver }
+clause given (Some c) setting resolver = assertion given c.assertion setting resolver
+
+-- whether a part holds no other
+abbrev pub is_alone_step : Atom-F Atom Assertion Conjunct → Bool
+is_alone_step (Atom-F.Empty word) = false
+is_alone_step (Atom-F.Predicate predicate) = false
+is_alone_step (Atom-F.Choice word start condition end first_start first first_end otherwise second_start second second_end) = false
+is_alone_step (Atom-F.Up word start inside end) = false
+is_alone_step (Atom-F.Down word start inside end) = false
+is_alone_step _ = true
+
+abbrev pub is_alone : Atom → Bool
+is_alone a = is_alone_step (out-Atom a)
 
 -- ---- modalities in an assertion
 

@@ -34,7 +34,7 @@ use Rattle.fsl_types.specs.declared.occurrence.Occurrence.TheVariants as occurre
 use Rattle.fsl_types.specs.declared.scope.Scope.{Scope}
 use Rattle.fsl_types.specs.declared.variable.Signature.{Signature}
 use Rattle.fsl_types.specs.Names.{Names, Signatures, found, slot_at, sort_at, text_at}
-use Rattle.fsl_types.specs.Walks.{noted, one_more}
+use Rattle.fsl_types.specs.Resolvers.{noted, one_more}
 
 -- ---- numbered expressions
 

@@ -7,4 +7,4 @@ pub mod Predicates
 pub mod Programs
 pub mod Reading
 pub mod Statements
-pub mod Walks
+pub mod Resolvers

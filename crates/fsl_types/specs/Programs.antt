@@ -29,13 +29,13 @@ use Rattle.fsl_types.specs.declared.resolved.Resolved.{Resolved}
 use Rattle.fsl_types.specs.declared.variable.Signature.{Signature}
 use Rattle.fsl_types.specs.declared.variable.Sort.{Sort}
 use Rattle.fsl_types.specs.declared.variable.Sort.TheVariants as sorts
-use Rattle.fsl_types.specs.declared.walk.Walk.{Walk}
+use Rattle.fsl_types.specs.declared.resolver.Resolver.{Resolver}
 use Rattle.fsl_types.specs.Assertions.{apart, assertion, clause, has_modality}
 use Rattle.fsl_types.specs.Faults.{fault_at, least_fault}
 use Rattle.fsl_types.specs.Given.{Given}
 use Rattle.fsl_types.specs.Names.{Signatures, found, text_at, with_name}
 use Rattle.fsl_types.specs.Statements.{block}
-use Rattle.fsl_types.specs.Walks.{Made, declared, fresh, judging, leaving, noted, one_more}
+use Rattle.fsl_types.specs.Resolvers.{Made, declared, fresh, judging, leaving, noted, one_more}
 
 -- ---- invariants and procedures by name
 
@@ -107,12 +107,12 @@ abbrev pub parameter_sort : Option Span → Sort
 parameter_sort None = sorts.Parameter
 parameter_sort (Some word) = sorts.Bank
 
-abbrev pub with_parameter : List ℕ → Parameter → Walk → Walk
-with_parameter bytes p walk = declared 16 bytes p.name (parameter_sort p.bank) walk
+abbrev pub with_parameter : List ℕ → Parameter → Resolver → Resolver
+with_parameter bytes p resolver = declared 16 bytes p.name (parameter_sort p.bank) resolver
 
-abbrev pub with_parameters : List ℕ → List Parameter → Walk → Walk
-with_parameters bytes [] walk = walk
-with_parameters bytes (p ∷ ps) walk = with_parameters bytes ps (with_parameter bytes p walk)
+abbrev pub with_parameters : List ℕ → List Parameter → Resolver → Resolver
+with_parameters bytes [] resolver = resolver
+with_parameters bytes (p ∷ ps) resolver = with_parameters bytes ps (with_parameter bytes p resolver)
 
 abbrev pub in_invariant : Setting
 in_invariant = record { in_ensures = false; modal = false }
@@ -123,15 +123,15 @@ in_requires = record { in_ensures = false; modal = true }
 abbrev pub in_ensures : Setting
 in_ensures = record { in_ensures = true; modal = true }
 
-abbrev pub part : Given → ℕ → Part → Walk → Made Asrt
-part given before p walk = apart (assertion given p.assertion) in_invariant (judging (noted (occurrence.Part p.open before)) walk)
+abbrev pub part : Given → ℕ → Part → Resolver → Made Asrt
+part given before p resolver = apart (assertion given p.assertion) in_invariant (judging (noted (occurrence.Part p.open before)) resolver)
 
-abbrev pub parts : Given → ℕ → List Part → Walk → Made (List Asrt)
-parts given before [] walk = record { made = []; walk = walk }
-parts given before (p ∷ ps) walk =
-    let first = part given before p walk in
-    let others = parts given (one_more 8 before) ps first.walk in
-    record { made = first.made ∷ others.made; walk = others.walk }
+abbrev pub parts : Given → ℕ → List Part → Resolver → Made (List Asrt)
+parts given before [] resolver = record { made = []; resolver = resolver }
+parts given before (p ∷ ps) resolver =
+    let first = part given before p resolver in
+    let others = parts given (one_more 8 before) ps first.resolver in
+    record { made = first.made ∷ others.made; resolver = others.resolver }
 
 -- ---- invariants and procedures
 
@@ -143,42 +143,42 @@ abbrev pub invariant : Given → Invariant → List Fault → Made Inv
 invariant given i faults =
     let known = with_parameters given.bytes (parameters_of i.parameters) (fresh faults) in
     let read = parts given 0 (i.first ∷ i.more) (declared 256 given.bytes i.value sorts.Local known) in
-    record { made = record { name = name_at given.bytes i.name; params = known.slots; slots = read.walk.slots; parts = read.made }; walk = read.walk }
+    record { made = record { name = name_at given.bytes i.name; params = known.slots; slots = read.resolver.slots; parts = read.made }; resolver = read.resolver }
 
 -- the contract of a procedure, whose binders end with it
-abbrev pub contract : Given → Procedure → Walk → Made Contract
-contract given p walk =
-    let pre = clause given p.requires_clause in_requires walk in
-    let post = clause given p.ensures_clause in_ensures pre.walk in
-    record { made = record { pre = pre.made; post = post.made }; walk = leaving (length walk.names) post.walk }
+abbrev pub contract : Given → Procedure → Resolver → Made Contract
+contract given p resolver =
+    let pre = clause given p.requires_clause in_requires resolver in
+    let post = clause given p.ensures_clause in_ensures pre.resolver in
+    record { made = record { pre = pre.made; post = post.made }; resolver = leaving (length resolver.names) post.resolver }
 
 abbrev pub procedure : Given → Procedure → List Fault → Made Proc
 procedure given p faults =
     let known = with_parameters given.bytes (parameters_of p.parameters) (fresh faults) in
     let agreed = contract given p known in
-    let body = (block given p.body).runs false agreed.walk in
+    let body = (block given p.body).runs false agreed.resolver in
     record {
       made = record {
         name = name_at given.bytes p.name;
         params = known.slots;
-        slots = body.walk.slots;
-        banks = body.walk.banks;
+        slots = body.resolver.slots;
+        banks = body.resolver.banks;
         pre = agreed.made.pre;
         post = agreed.made.post;
         body = body.made;
         last = p.body.close;
       };
-      walk = body.walk;
+      resolver = body.resolver;
     }
 
 -- ---- files
 
 abbrev pub declaration : Given → Declaration → Resolved → Resolved
 declaration given (declarations.Invariant i) so_far =
-    let read = invariant given i so_far.faults in record so_far { invs = so_far.invs ++ read.made ∷ []; faults = read.walk.faults }
+    let read = invariant given i so_far.faults in record so_far { invs = so_far.invs ++ read.made ∷ []; faults = read.resolver.faults }
 declaration given (declarations.Predicate p) so_far = so_far
 declaration given (declarations.Procedure p) so_far =
-    let read = procedure given p so_far.faults in record so_far { procs = so_far.procs ++ read.made ∷ []; faults = read.walk.faults }
+    let read = procedure given p so_far.faults in record so_far { procs = so_far.procs ++ read.made ∷ []; faults = read.resolver.faults }
 
 abbrev pub declare_each : Given → List Declaration → Resolved → Resolved
 declare_each given [] so_far = so_far

@@ -13,6 +13,8 @@ use Rattle.fsl_core.specs.declared.expr.Expr.{Expr}
 use Rattle.fsl_core.specs.declared.expr.Expr.TheVariants as expr
 use Rattle.fsl_core.specs.declared.mode.Mode.{Mode as CoreMode}
 use Rattle.fsl_core.specs.declared.mode.Mode.TheVariants as mode
+use Rattle.fsl_tree.specs.declared.declaration.Clause.{Clause}
+use Rattle.fsl_tree.specs.declared.expression.Condition.{Condition}
 use Rattle.fsl_tree.specs.declared.expression.Expression.{Expression}
 use Rattle.fsl_tree.specs.declared.expression.Use.{Use}
 use Rattle.fsl_tree.specs.declared.right_side.Allocation.{Allocation}
@@ -48,12 +50,12 @@ use Rattle.fsl_types.specs.declared.occurrence.Due.TheVariants as due
 use Rattle.fsl_types.specs.declared.occurrence.Occurrence.TheVariants as occurrence
 use Rattle.fsl_types.specs.declared.variable.Signature.{Signature}
 use Rattle.fsl_types.specs.declared.variable.Sort.TheVariants as sorts
-use Rattle.fsl_types.specs.declared.walk.Walk.{Walk}
+use Rattle.fsl_types.specs.declared.resolver.Resolver.{Resolver}
 use Rattle.fsl_types.specs.Assertions.{apart, assertion, clause, sight}
 use Rattle.fsl_types.specs.Expressions.{Judged, Sight, condition_of, expression_of, in_turn, instance_of, judged_condition, judged_name, judged_number, judged_use, number_of, numbered_arguments, signature_at}
 use Rattle.fsl_types.specs.Given.{Given}
 use Rattle.fsl_types.specs.Names.{Names, slot_at}
-use Rattle.fsl_types.specs.Walks.{Made, declared, judging, leaving, noted}
+use Rattle.fsl_types.specs.Resolvers.{Made, declared, judging, leaving, noted}
 
 -- ---- modes
 
@@ -153,12 +155,12 @@ abbrev pub stmt : Span → Span → Act → Stmt
 stmt first last what = record { span = from_to first last; act = what }
 
 -- statements see no `result`
-abbrev pub seen : Given → Walk → Sight
-seen given walk = sight given false walk
+abbrev pub seen : Given → Resolver → Sight
+seen given resolver = sight given false resolver
 
 -- a statement that declares nothing
-abbrev pub plainly : Stmt → Judged → Walk → Made Stmt
-plainly made judged walk = record { made = made; walk = judging judged walk }
+abbrev pub plainly : Stmt → Judged → Resolver → Made Stmt
+plainly made judged resolver = record { made = made; resolver = judging judged resolver }
 
 abbrev pub called : Given → Names → ParallelCall → Called
 called given names call = record {
@@ -189,11 +191,11 @@ abbrev pub release_mode : ReleaseWord → CoreMode
 release_mode (release_words.Release place) = mode.Rel
 release_mode (release_words.AcquireRelease place) = mode.AcqRel
 
-abbrev pub fence : Given → FenceKind → Walk → Made Act
-fence given (fences.Acquire word) walk = record { made = act.Fence mode.Acq asrt.Emp; walk = walk }
-fence given (fences.Release word start held end) walk =
-    let read = apart (assertion given held) in_fence walk in
-    record { made = act.Fence (release_mode word) read.made; walk = read.walk }
+abbrev pub fence : Given → FenceKind → Resolver → Made Act
+fence given (fences.Acquire word) resolver = record { made = act.Fence mode.Acq asrt.Emp; resolver = resolver }
+fence given (fences.Release word start held end) resolver =
+    let read = apart (assertion given held) in_fence resolver in
+    record { made = act.Fence (release_mode word) read.made; resolver = read.resolver }
 
 abbrev pub returned : Given → Names → Option Expression → Expr
 returned given names None = expr.Const (pos 0)
@@ -207,76 +209,127 @@ judged_return sight in_loop word (Some e) faults = judged_number sight e (noted 
 
 -- what a statement makes, inside a loop or not
 abbrev pub Runs : Type 0
-Runs = Bool → Walk → Made Stmt
+Runs = Bool → Resolver → Made Stmt
 
 -- what the statements of a block make, and its closing brace
 pub record Inside : Type 0 where
   pub last : Span
-  pub runs : Bool → Walk → Made (List Stmt)
+  pub runs : Bool → Resolver → Made (List Stmt)
 
-abbrev pub run_each : List Runs → Bool → Walk → Made (List Stmt)
-run_each [] in_loop walk = record { made = []; walk = walk }
-run_each (r ∷ rs) in_loop walk =
-    let first = r in_loop walk in
-    let others = run_each rs in_loop first.walk in
-    record { made = first.made ∷ others.made; walk = others.walk }
+abbrev pub run_each : List Runs → Bool → Resolver → Made (List Stmt)
+run_each [] in_loop resolver = record { made = []; resolver = resolver }
+run_each (r ∷ rs) in_loop resolver =
+    let first = r in_loop resolver in
+    let others = run_each rs in_loop first.resolver in
+    record { made = first.made ∷ others.made; resolver = others.resolver }
 
 abbrev pub block_step : Block-F Runs Inside Inside → Inside
 block_step b = record {
   last = b.close;
-  runs = λ in_loop walk. let read = run_each b.statements in_loop walk in record { made = read.made; walk = leaving (length walk.names) read.walk };
+  runs = λ in_loop resolver. let read = run_each b.statements in_loop resolver in record { made = read.made; resolver = leaving (length resolver.names) read.resolver };
 }
 
 abbrev pub otherwise_step : Otherwise-F Runs Inside Inside → Inside
 otherwise_step o = o.block
 
 -- an absent `else` makes nothing, and the statement ends where its first block does
-abbrev pub run_otherwise : Option Inside → Bool → Walk → Made (List Stmt)
-run_otherwise None in_loop walk = record { made = []; walk = walk }
-run_otherwise (Some o) in_loop walk = o.runs in_loop walk
+abbrev pub run_otherwise : Option Inside → Bool → Resolver → Made (List Stmt)
+run_otherwise None in_loop resolver = record { made = []; resolver = resolver }
+run_otherwise (Some o) in_loop resolver = o.runs in_loop resolver
 
 abbrev pub last_of : Span → Option Inside → Span
 last_of last None = last
 last_of last (Some o) = o.last
 
-abbrev pub statement_step : Given → Statement-F Runs Inside Inside → Runs
-statement_step given (Statement-F.Let word name equals right semicolon) in_loop walk = record {
-  made = stmt word semicolon (right_side_of given walk.names walk.slots right);
-  walk = declared 256 given.bytes name sorts.Local (judging (judged_right_side given (seen given walk) right) walk);
+-- a variable is declared behind its right side
+abbrev pub letting : Given → Span → Span → Span → RightSide → Runs
+letting given word name semicolon right in_loop resolver = record {
+  made = stmt word semicolon (right_side_of given resolver.names resolver.slots right);
+  resolver = declared 256 given.bytes name sorts.Local (judging (judged_right_side given (seen given resolver) right) resolver);
 }
-statement_step given (Statement-F.Assign name equals right semicolon) in_loop walk =
-    plainly (stmt name semicolon (right_side_of given walk.names (slot_at given.bytes walk.names name) right))
-    (λ faults. judged_right_side given (seen given walk) right (judged_name (seen given walk) due.Target name faults)) walk
-statement_step given (Statement-F.Store word how start location comma stored end semicolon) in_loop walk =
-    plainly (stmt word semicolon (act.Store (mode_of how) (expression_of given.bytes walk.names location) (expression_of given.bytes walk.names stored)))
-    (λ faults. judged_number (seen given walk) stored (judged_number (seen given walk) location (judged_mode accesses.Store how faults))) walk
-statement_step given (Statement-F.Call word callee semicolon) in_loop walk =
-    plainly (stmt word semicolon (act.Call None (number_of (signature_at given.bytes given.procedures callee.name)) (numbered_arguments given.bytes walk.names callee.arguments)))
-    (judged_use (seen given walk) (signature_at given.bytes given.procedures callee.name) callee) walk
-statement_step given (Statement-F.Parallel word start calls end) in_loop walk =
-    plainly (stmt word end (act.Par (map (called given walk.names) calls))) (judged_parallel given (seen given walk) word calls) walk
-statement_step given (Statement-F.Fence word what semicolon) in_loop walk =
-    let read = fence given what walk in record { made = stmt word semicolon read.made; walk = read.walk }
-statement_step given (Statement-F.If word start condition end then_block otherwise) in_loop walk =
-    let one = then_block.runs in_loop (judging (judged_condition (seen given walk) condition) walk) in
-    let other = run_otherwise otherwise in_loop one.walk in
-    record { made = stmt word (last_of then_block.last otherwise) (act.If (condition_of given.bytes walk.names condition) one.made other.made); walk = other.walk }
-statement_step given (Statement-F.While word start condition end invariant body) in_loop walk =
-    let held = apart (clause given invariant) in_loop_invariant (judging (judged_condition (seen given walk) condition) walk) in
-    let inside = body.runs true held.walk in
-    record { made = stmt word body.last (act.While (condition_of given.bytes walk.names condition) held.made inside.made); walk = inside.walk }
-statement_step given (Statement-F.Assert word start condition end semicolon) in_loop walk =
-    plainly (stmt word semicolon (act.Assert (condition_of given.bytes walk.names condition))) (judged_condition (seen given walk) condition) walk
-statement_step given (Statement-F.Print word start printed end semicolon) in_loop walk =
-    plainly (stmt word semicolon (act.Print (expression_of given.bytes walk.names printed))) (judged_number (seen given walk) printed) walk
-statement_step given (Statement-F.Free word start location end semicolon) in_loop walk =
-    plainly (stmt word semicolon (act.Free (expression_of given.bytes walk.names location))) (judged_number (seen given walk) location) walk
-statement_step given (Statement-F.Return word e semicolon) in_loop walk =
-    plainly (stmt word semicolon (act.Return (returned given walk.names e))) (judged_return (seen given walk) in_loop word e) walk
-statement_step given (Statement-F.Bank word name semicolon) in_loop walk =
-    record { made = stmt word semicolon (act.Bank walk.slots); walk = declared 256 given.bytes name sorts.Bank walk }
-statement_step given (Statement-F.Step timed semicolon) in_loop walk =
-    plainly (stmt (step_place timed.word) semicolon (act.Step (step_of given.bytes walk.names timed))) (judged_step (seen given walk) timed) walk
+
+abbrev pub assigning : Given → Span → Span → RightSide → Runs
+assigning given name semicolon right in_loop resolver =
+    plainly (stmt name semicolon (right_side_of given resolver.names (slot_at given.bytes resolver.names name) right))
+    (λ faults. judged_right_side given (seen given resolver) right (judged_name (seen given resolver) due.Target name faults)) resolver
+
+abbrev pub storing : Given → Span → Span → Mode → Expression → Expression → Runs
+storing given word semicolon how location stored in_loop resolver =
+    plainly (stmt word semicolon (act.Store (mode_of how) (expression_of given.bytes resolver.names location) (expression_of given.bytes resolver.names stored)))
+    (λ faults. judged_number (seen given resolver) stored (judged_number (seen given resolver) location (judged_mode accesses.Store how faults))) resolver
+
+abbrev pub calling : Given → Span → Span → Use → Runs
+calling given word semicolon callee in_loop resolver =
+    plainly (stmt word semicolon
+    (act.Call None (number_of (signature_at given.bytes given.procedures callee.name)) (numbered_arguments given.bytes resolver.names callee.arguments)))
+    (judged_use (seen given resolver) (signature_at given.bytes given.procedures callee.name) callee) resolver
+
+abbrev pub forking : Given → Span → Span → List ParallelCall → Runs
+forking given word end calls in_loop resolver =
+    plainly (stmt word end (act.Par (map (called given resolver.names) calls))) (judged_parallel given (seen given resolver) word calls) resolver
+
+abbrev pub fencing : Given → Span → Span → FenceKind → Runs
+fencing given word semicolon what in_loop resolver =
+    let read = fence given what resolver in record { made = stmt word semicolon read.made; resolver = read.resolver }
+
+abbrev pub choosing : Given → Span → Condition → Inside → Option Inside → Runs
+choosing given word condition then_block otherwise in_loop resolver =
+    let one = then_block.runs in_loop (judging (judged_condition (seen given resolver) condition) resolver) in
+    let other = run_otherwise otherwise in_loop one.resolver in
+    record {
+      made = stmt word (last_of then_block.last otherwise) (act.If (condition_of given.bytes resolver.names condition) one.made other.made);
+      resolver = other.resolver;
+    }
+
+-- the binders of a loop's invariant end with it
+abbrev pub looping : Given → Span → Condition → Option Clause → Inside → Runs
+looping given word condition invariant body in_loop resolver =
+    let held = apart (clause given invariant) in_loop_invariant (judging (judged_condition (seen given resolver) condition) resolver) in
+    let inside = body.runs true held.resolver in
+    record {
+      made = stmt word body.last (act.While (condition_of given.bytes resolver.names condition) held.made inside.made);
+      resolver = inside.resolver;
+    }
+
+abbrev pub asserting : Given → Span → Span → Condition → Runs
+asserting given word semicolon condition in_loop resolver =
+    plainly (stmt word semicolon (act.Assert (condition_of given.bytes resolver.names condition))) (judged_condition (seen given resolver) condition) resolver
+
+abbrev pub printing : Given → Span → Span → Expression → Runs
+printing given word semicolon printed in_loop resolver =
+    plainly (stmt word semicolon (act.Print (expression_of given.bytes resolver.names printed))) (judged_number (seen given resolver) printed) resolver
+
+abbrev pub freeing : Given → Span → Span → Expression → Runs
+freeing given word semicolon location in_loop resolver =
+    plainly (stmt word semicolon (act.Free (expression_of given.bytes resolver.names location))) (judged_number (seen given resolver) location) resolver
+
+abbrev pub returning : Given → Span → Span → Option Expression → Runs
+returning given word semicolon e in_loop resolver =
+    plainly (stmt word semicolon (act.Return (returned given resolver.names e))) (judged_return (seen given resolver) in_loop word e) resolver
+
+abbrev pub declaring_bank : Given → Span → Span → Span → Runs
+declaring_bank given word name semicolon in_loop resolver =
+    record { made = stmt word semicolon (act.Bank resolver.slots); resolver = declared 256 given.bytes name sorts.Bank resolver }
+
+abbrev pub stepping : Given → Step → Span → Runs
+stepping given timed semicolon in_loop resolver =
+    plainly (stmt (step_place timed.word) semicolon (act.Step (step_of given.bytes resolver.names timed))) (judged_step (seen given resolver) timed) resolver
+
+abbrev pub statement_step : Given → Statement-F Runs Inside Inside → Runs
+statement_step given (Statement-F.Let word name equals right semicolon) = letting given word name semicolon right
+statement_step given (Statement-F.Assign name equals right semicolon) = assigning given name semicolon right
+statement_step given (Statement-F.Store word how start location comma stored end semicolon) = storing given word semicolon how location stored
+statement_step given (Statement-F.Call word callee semicolon) = calling given word semicolon callee
+statement_step given (Statement-F.Parallel word start calls end) = forking given word end calls
+statement_step given (Statement-F.Fence word what semicolon) = fencing given word semicolon what
+statement_step given (Statement-F.If word start condition end then_block otherwise) = choosing given word condition then_block otherwise
+statement_step given (Statement-F.While word start condition end invariant body) = looping given word condition invariant body
+statement_step given (Statement-F.Assert word start condition end semicolon) = asserting given word semicolon condition
+statement_step given (Statement-F.Print word start printed end semicolon) = printing given word semicolon printed
+statement_step given (Statement-F.Free word start location end semicolon) = freeing given word semicolon location
+statement_step given (Statement-F.Return word e semicolon) = returning given word semicolon e
+statement_step given (Statement-F.Bank word name semicolon) = declaring_bank given word name semicolon
+statement_step given (Statement-F.Step timed semicolon) = stepping given timed semicolon
 
 abbrev pub statement : Given → Statement → Runs
 statement given = fold-Statement Runs Inside Inside (statement_step given) block_step otherwise_step
@@ -295,3 +348,25 @@ is_simple_step _ = true
 
 abbrev pub is_simple : Statement → Bool
 is_simple s = is_simple_step (out-Statement s)
+
+-- whether it declares and sets no variable either
+abbrev pub is_unnamed_step : Statement-F Statement Block Otherwise → Bool
+is_unnamed_step (Statement-F.Let word name equals right semicolon) = false
+is_unnamed_step (Statement-F.Assign name equals right semicolon) = false
+is_unnamed_step (Statement-F.Bank word name semicolon) = false
+is_unnamed_step s = is_simple_step s
+
+abbrev pub is_unnamed : Statement → Bool
+is_unnamed s = is_unnamed_step (out-Statement s)
+
+-- whether it only reads, writes, frees, checks, prints, or steps tokens
+abbrev pub is_effect_step : Statement-F Statement Block Otherwise → Bool
+is_effect_step (Statement-F.Store word how start location comma stored end semicolon) = true
+is_effect_step (Statement-F.Free word start location end semicolon) = true
+is_effect_step (Statement-F.Assert word start condition end semicolon) = true
+is_effect_step (Statement-F.Print word start printed end semicolon) = true
+is_effect_step (Statement-F.Step timed semicolon) = true
+is_effect_step _ = false
+
+abbrev pub is_effect : Statement → Bool
+is_effect s = is_effect_step (out-Statement s)

@@ -5,7 +5,7 @@ ghost use Rattle.fsl_types.specs.Given.{given_of};
 
 use crate::given::{Globals, Setting};
 use crate::occurrence::Occurrence;
-use crate::walk::Walk;
+use crate::resolver::Resolver;
 use fsl_base::{Boxed, List, Span};
 use fsl_core::{Asrt, Cond};
 use fsl_tree::{Assertion, Atom, Clause, Conjunct};
@@ -22,7 +22,7 @@ fn unmodal(setting: Setting) -> Setting
 }
 
 /// A conjunction; one part is none.
-#[tactic(auto, using(crate::proofs::Chains::both_of_several))]
+#[tactic(auto, using(crate::proofs::NumberingLemmas::both_of_several))]
 fn both(alloc: Global, first: Asrt, more: List<Asrt>) -> Result<Asrt, AllocError>
     ensures { IfOk result (λ a. a ≡ both_of first more) }
 {
@@ -47,7 +47,7 @@ fn choice(alloc: Global, cond: Cond, first: Asrt, second: Asrt) -> Result<Asrt, 
     })
 }
 
-impl<'a> Walk<'a> {
+impl<'a> Resolver<'a> {
     /// A part whose names go at its end.
     #[cycle(read)]
     pub fn apart(
@@ -58,7 +58,7 @@ impl<'a> Walk<'a> {
         tree: &Assertion,
     ) -> Result<Asrt, AllocError>
         ensures made { IfOk result (λ a. a ≡ (apart (assertion (given_of globals.now) tree.now) setting self.old).made) }
-        ensures walk { OnOk result (self.new ≡ (apart (assertion (given_of globals.now) tree.now) setting self.old).walk) }
+        ensures resolver { OnOk result (self.new ≡ (apart (assertion (given_of globals.now) tree.now) setting self.old).resolver) }
     {
         let outside = self.names.len();
         let made = self.assertion(alloc, globals, setting, tree)?;
@@ -77,7 +77,7 @@ impl<'a> Walk<'a> {
         tree: &Assertion,
     ) -> Result<Boxed<Asrt>, AllocError>
         ensures made { IfOk result (λ a. a ≡ (apart (assertion (given_of globals.now) tree.now) (unmodal setting) (modality word setting self.old)).made) }
-        ensures walk { OnOk result (self.new ≡ (apart (assertion (given_of globals.now) tree.now) (unmodal setting) (modality word setting self.old)).walk) }
+        ensures resolver { OnOk result (self.new ≡ (apart (assertion (given_of globals.now) tree.now) (unmodal setting) (modality word setting self.old)).resolver) }
     {
         self.note(Occurrence::Modality {
             place: word,
@@ -97,7 +97,7 @@ impl<'a> Walk<'a> {
         tree: &Atom,
     ) -> Result<Asrt, AllocError>
         ensures made { IfOk result (λ a. a ≡ (atom (given_of globals.now) tree.now setting self.old).made) }
-        ensures walk { OnOk result (self.new ≡ (atom (given_of globals.now) tree.now setting self.old).walk) }
+        ensures resolver { OnOk result (self.new ≡ (atom (given_of globals.now) tree.now setting self.old).resolver) }
     {
         match tree {
             Atom::Empty { .. } | Atom::Predicate { .. } => Ok(Asrt::Emp),
@@ -126,49 +126,7 @@ impl<'a> Walk<'a> {
             } => Ok(Asrt::Down {
                 a: self.inside(alloc, globals, setting, *word, assertion.get())?,
             }),
-            Atom::Init { location, .. } => self.init(alloc, globals, setting, location),
-            Atom::Rel {
-                location,
-                invariant,
-                ..
-            } => {
-                let (at, inst) = self.permission(alloc, globals, setting, location, invariant)?;
-                Ok(Asrt::Rel { at, inst })
-            }
-            Atom::RmwAcq {
-                location,
-                invariant,
-                ..
-            } => {
-                let (at, inst) = self.permission(alloc, globals, setting, location, invariant)?;
-                Ok(Asrt::RmwAcq { at, inst })
-            }
-            Atom::Acq {
-                location,
-                invariant,
-                part,
-                part_value,
-                excluded,
-                ..
-            } => self.acquire(
-                alloc,
-                globals,
-                setting,
-                location,
-                invariant,
-                *part,
-                *part_value,
-                excluded,
-            ),
-            Atom::Bank {
-                word,
-                bank,
-                amount,
-                ..
-            } => self.tokens(alloc, globals, setting, *word, *bank, amount),
-            Atom::Related { left, relation } => {
-                self.related(alloc, globals, setting, left, relation)
-            }
+            _ => self.alone(alloc, globals, setting, tree),
         }
     }
 
@@ -182,7 +140,7 @@ impl<'a> Walk<'a> {
         trees: &[Conjunct],
     ) -> Result<List<Asrt>, AllocError>
         ensures made { IfOk result (λ list. list ≡ (each (map (conjunct (given_of globals.now)) trees.now) setting self.old).made) }
-        ensures walk { OnOk result (self.new ≡ (each (map (conjunct (given_of globals.now)) trees.now) setting self.old).walk) }
+        ensures resolver { OnOk result (self.new ≡ (each (map (conjunct (given_of globals.now)) trees.now) setting self.old).resolver) }
     {
         let mut list = List::new(alloc);
         for tree in trees {
@@ -201,7 +159,7 @@ impl<'a> Walk<'a> {
         tree: &Assertion,
     ) -> Result<Asrt, AllocError>
         ensures made { IfOk result (λ a. a ≡ (assertion (given_of globals.now) tree.now setting self.old).made) }
-        ensures walk { OnOk result (self.new ≡ (assertion (given_of globals.now) tree.now setting self.old).walk) }
+        ensures resolver { OnOk result (self.new ≡ (assertion (given_of globals.now) tree.now setting self.old).resolver) }
     {
         let first = self.atom(alloc, globals, setting, &tree.first)?;
         let more = self.conjuncts(alloc, globals, setting, tree.more.as_slice())?;
@@ -217,7 +175,7 @@ impl<'a> Walk<'a> {
         tree: &Option<Clause>,
     ) -> Result<Asrt, AllocError>
         ensures made { IfOk result (λ a. a ≡ (clause (given_of globals.now) tree.now setting self.old).made) }
-        ensures walk { OnOk result (self.new ≡ (clause (given_of globals.now) tree.now setting self.old).walk) }
+        ensures resolver { OnOk result (self.new ≡ (clause (given_of globals.now) tree.now setting self.old).resolver) }
     {
         match tree {
             None => Ok(Asrt::Emp),

@@ -1,23 +1,24 @@
-//! The parts of assertions that hold no others, over numbered variables and with their faults.
-ghost use Rattle.std.specs.Prelude.{◌≡◌, IfOk, OnOk};
+//! The parts of assertions that hold no others, over numbered variables and with their faults. They are defined
+//! with the assertions, in `specs/Assertions.antt`.
+ghost use Rattle.std.specs.Prelude.{◌≡◌, IfOk, IsTrue, OnOk};
 ghost use Rattle.std.specs.Option.{option_copied};
 ghost use Rattle.fsl_core.specs.declared.assertion.Asrt.TheVariants as asrt;
-ghost use Rattle.fsl_types.specs.Assertions.{judged_acquire, judged_permission, judged_share, judged_tokens, last_part_of, number_in, part_number, pattern, relation, share_of, sight, tokens};
+ghost use Rattle.fsl_types.specs.Assertions.{atom, is_alone, judged_acquire, judged_permission, judged_share, judged_tokens, last_part_of, number_in, part_number, pattern, relation, share_of, sight, tokens};
 ghost use Rattle.fsl_tree.specs.declared.expression.Condition.TheVariants as conditions;
 ghost use Rattle.fsl_types.specs.Expressions.{condition_of, instance_of, judged_condition, judged_number, numbered_arguments};
 ghost use Rattle.fsl_types.specs.Given.{given_of};
-ghost use Rattle.fsl_types.specs.Walks.{judging};
+ghost use Rattle.fsl_types.specs.Resolvers.{judging};
 
 use crate::given::{Globals, Setting};
 use crate::numbering::operator;
 use crate::occurrence::{Due, Occurrence};
+use crate::resolver::Resolver;
 use crate::rules::note;
 use crate::variable::{Signature, Sort};
-use crate::walk::Walk;
 use fsl_base::Span;
 use fsl_core::{Asrt, Cond, Expr, Inst, Pat};
 use fsl_tree::{
-    Arguments, BankWord, Comparison, Condition, Expression, Pattern, Relation, Share, Use,
+    Arguments, Atom, BankWord, Comparison, Condition, Expression, Pattern, Relation, Share, Use,
 };
 use std::alloc::{AllocError, Global};
 
@@ -41,7 +42,7 @@ fn last_part(signature: Option<&Signature>) -> Option<usize>
     }
 }
 
-impl<'a> Walk<'a> {
+impl<'a> Resolver<'a> {
     /// `Init`
     pub fn init(
         &mut self,
@@ -51,7 +52,7 @@ impl<'a> Walk<'a> {
         location: &Expression,
     ) -> Result<Asrt, AllocError>
         ensures made { IfOk result (λ a. a ≡ asrt.Init (number_in (given_of globals.now) self.old location.now)) }
-        ensures walk { OnOk result (self.new ≡ judging (judged_number (sight (given_of globals.now) setting.in_ensures self.old) location.now) self.old) }
+        ensures resolver { OnOk result (self.new ≡ judging (judged_number (sight (given_of globals.now) setting.in_ensures self.old) location.now) self.old) }
     {
         let scope = globals.scope(&self.names, setting.in_ensures);
         scope.judge_number(&mut self.faults, location)?;
@@ -70,7 +71,7 @@ impl<'a> Walk<'a> {
         tree: &Use,
     ) -> Result<(Expr, Inst), AllocError>
         ensures made { IfOk result (λ p. p ≡ (number_in (given_of globals.now) self.old location.now, instance_of globals.now.bytes.now globals.now.invariants self.old.names tree.now)) }
-        ensures walk { OnOk result (self.new ≡ judging (judged_permission (sight (given_of globals.now) setting.in_ensures self.old) globals.now.invariants location.now tree.now) self.old) }
+        ensures resolver { OnOk result (self.new ≡ judging (judged_permission (sight (given_of globals.now) setting.in_ensures self.old) globals.now.invariants location.now tree.now) self.old) }
     {
         let scope = globals.scope(&self.names, setting.in_ensures);
         let signature = globals.invariant(tree.name);
@@ -94,7 +95,7 @@ impl<'a> Walk<'a> {
         excluded: &Option<Arguments>,
     ) -> Result<Asrt, AllocError>
         ensures made { IfOk result (λ a. a ≡ asrt.Acq (number_in (given_of globals.now) self.old location.now) (instance_of globals.now.bytes.now globals.now.invariants self.old.names tree.now) (part_number value) (numbered_arguments globals.now.bytes.now self.old.names excluded.now)) }
-        ensures walk { OnOk result (self.new ≡ judging (judged_acquire (sight (given_of globals.now) setting.in_ensures self.old) globals.now.invariants location.now tree.now part value excluded.now) self.old) }
+        ensures resolver { OnOk result (self.new ≡ judging (judged_acquire (sight (given_of globals.now) setting.in_ensures self.old) globals.now.invariants location.now tree.now part value excluded.now) self.old) }
     {
         let (at, inst) = self.permission(alloc, globals, setting, location, tree)?;
         let scope = globals.scope(&self.names, setting.in_ensures);
@@ -126,7 +127,7 @@ impl<'a> Walk<'a> {
         amount: &Expression,
     ) -> Result<Asrt, AllocError>
         ensures made { IfOk result (λ a. a ≡ tokens (given_of globals.now) self.old word bank amount.now) }
-        ensures walk { OnOk result (self.new ≡ judging (judged_tokens (sight (given_of globals.now) setting.in_ensures self.old) bank amount.now) self.old) }
+        ensures resolver { OnOk result (self.new ≡ judging (judged_tokens (sight (given_of globals.now) setting.in_ensures self.old) bank amount.now) self.old) }
     {
         let scope = globals.scope(&self.names, setting.in_ensures);
         scope.judge_name(Due::Bank, &mut self.faults, bank)?;
@@ -148,7 +149,7 @@ impl<'a> Walk<'a> {
         tree: &Condition,
     ) -> Result<Cond, AllocError>
         ensures made { IfOk result (λ c. c ≡ condition_of globals.now.bytes.now self.old.names tree.now) }
-        ensures walk { OnOk result (self.new ≡ judging (judged_condition (sight (given_of globals.now) in_ensures self.old) tree.now) self.old) }
+        ensures resolver { OnOk result (self.new ≡ judging (judged_condition (sight (given_of globals.now) in_ensures self.old) tree.now) self.old) }
     {
         let scope = globals.scope(&self.names, in_ensures);
         scope.judge_condition(&mut self.faults, tree)?;
@@ -166,7 +167,7 @@ impl<'a> Walk<'a> {
         right: &Expression,
     ) -> Result<Asrt, AllocError>
         ensures made { IfOk result (λ a. a ≡ asrt.Fact (condition_of globals.now.bytes.now self.old.names (conditions.Compared left.now comparison right.now))) }
-        ensures walk { OnOk result (self.new ≡ judging (judged_condition (sight (given_of globals.now) setting.in_ensures self.old) (conditions.Compared left.now comparison right.now)) self.old) }
+        ensures resolver { OnOk result (self.new ≡ judging (judged_condition (sight (given_of globals.now) setting.in_ensures self.old) (conditions.Compared left.now comparison right.now)) self.old) }
     {
         let scope = globals.scope(&self.names, setting.in_ensures);
         scope.judge_number(&mut self.faults, left)?;
@@ -191,7 +192,7 @@ impl<'a> Walk<'a> {
         tree: &Option<Share>,
     ) -> Result<Expr, AllocError>
         ensures made { IfOk result (λ e. e ≡ share_of (given_of globals.now) self.old tree.now) }
-        ensures walk { OnOk result (self.new ≡ judging (judged_share (sight (given_of globals.now) setting.in_ensures self.old) tree.now) self.old) }
+        ensures resolver { OnOk result (self.new ≡ judging (judged_share (sight (given_of globals.now) setting.in_ensures self.old) tree.now) self.old) }
     {
         match tree {
             None => Ok(Expr::Const { n: FULL }),
@@ -208,7 +209,7 @@ impl<'a> Walk<'a> {
         tree: &Expression,
     ) -> Result<Expr, AllocError>
         ensures made { IfOk result (λ e. e ≡ number_in (given_of globals.now) self.old tree.now) }
-        ensures walk { OnOk result (self.new ≡ judging (judged_number (sight (given_of globals.now) setting.in_ensures self.old) tree.now) self.old) }
+        ensures resolver { OnOk result (self.new ≡ judging (judged_number (sight (given_of globals.now) setting.in_ensures self.old) tree.now) self.old) }
     {
         let scope = globals.scope(&self.names, setting.in_ensures);
         scope.judge_number(&mut self.faults, tree)?;
@@ -224,7 +225,7 @@ impl<'a> Walk<'a> {
         tree: &Pattern,
     ) -> Result<Pat, AllocError>
         ensures made { IfOk result (λ p. p ≡ (pattern (given_of globals.now) setting tree.now self.old).made) }
-        ensures walk { OnOk result (self.new ≡ (pattern (given_of globals.now) setting tree.now self.old).walk) }
+        ensures resolver { OnOk result (self.new ≡ (pattern (given_of globals.now) setting tree.now self.old).resolver) }
     {
         match tree {
             Pattern::Any { .. } => Ok(Pat::Any),
@@ -249,7 +250,7 @@ impl<'a> Walk<'a> {
         tree: &Relation,
     ) -> Result<Asrt, AllocError>
         ensures made { IfOk result (λ a. a ≡ (relation (given_of globals.now) setting left.now tree.now self.old).made) }
-        ensures walk { OnOk result (self.new ≡ (relation (given_of globals.now) setting left.now tree.now self.old).walk) }
+        ensures resolver { OnOk result (self.new ≡ (relation (given_of globals.now) setting left.now tree.now self.old).resolver) }
     {
         match tree {
             Relation::Compared { comparison, right } => {
@@ -261,6 +262,66 @@ impl<'a> Walk<'a> {
                 let pat = self.pattern(alloc, globals, setting, pattern)?;
                 Ok(Asrt::Points { at, share, pat })
             }
+        }
+    }
+
+    /// A part that holds no other.
+    pub fn alone(
+        &mut self,
+        alloc: Global,
+        globals: &Globals<'a>,
+        setting: Setting,
+        tree: &Atom,
+    ) -> Result<Asrt, AllocError>
+        requires { IsTrue (is_alone tree.now) }
+        ensures made { IfOk result (λ a. a ≡ (atom (given_of globals.now) tree.now setting self.old).made) }
+        ensures resolver { OnOk result (self.new ≡ (atom (given_of globals.now) tree.now setting self.old).resolver) }
+    {
+        match tree {
+            Atom::Init { location, .. } => self.init(alloc, globals, setting, location),
+            Atom::Rel {
+                location,
+                invariant,
+                ..
+            } => {
+                let (at, inst) = self.permission(alloc, globals, setting, location, invariant)?;
+                Ok(Asrt::Rel { at, inst })
+            }
+            Atom::RmwAcq {
+                location,
+                invariant,
+                ..
+            } => {
+                let (at, inst) = self.permission(alloc, globals, setting, location, invariant)?;
+                Ok(Asrt::RmwAcq { at, inst })
+            }
+            Atom::Acq {
+                location,
+                invariant,
+                part,
+                part_value,
+                excluded,
+                ..
+            } => self.acquire(
+                alloc,
+                globals,
+                setting,
+                location,
+                invariant,
+                *part,
+                *part_value,
+                excluded,
+            ),
+            Atom::Bank {
+                word,
+                bank,
+                amount,
+                ..
+            } => self.tokens(alloc, globals, setting, *word, *bank, amount),
+            Atom::Related { left, relation } => {
+                self.related(alloc, globals, setting, left, relation)
+            }
+            _ => unreachable!(),
         }
     }
 }

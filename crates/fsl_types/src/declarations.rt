@@ -1,4 +1,5 @@
-//! Invariants and procedures over numbered variables, with their faults.
+//! Invariants and procedures over numbered variables, with their faults. They are defined with the programs, in
+//! `specs/Programs.antt`.
 ghost use Rattle.std.specs.Prelude.{◌≡◌, ◌∷◌, ◌++◌, [], IfOk, OnOk, map};
 ghost use Rattle.fsl_types.specs.declared.variable.Sort.TheVariants as sorts;
 ghost use Rattle.fsl_types.specs.Given.{given_of};
@@ -8,8 +9,8 @@ use crate::fault::Fault;
 use crate::given::{Globals, Setting};
 use crate::names::text_at;
 use crate::occurrence::Occurrence;
+use crate::resolver::{Resolver, one_more};
 use crate::variable::Sort;
-use crate::walk::{Walk, one_more};
 use fsl_base::{List, Span, Text};
 use fsl_core::{Asrt, Inv, Proc, Stmt};
 use fsl_tree::{Invariant, NextParameter, Parameter, Parameters, Part, Procedure};
@@ -31,7 +32,7 @@ fn name_text(alloc: Global, bytes: &[u8], name: Span) -> Result<Text, AllocError
     }
 }
 
-impl<'a> Walk<'a> {
+impl<'a> Resolver<'a> {
     /// A parameter.
     fn parameter(&mut self, bytes: &'a [u8], tree: Parameter) -> Result<(), AllocError>
         ensures { OnOk result (self.new ≡ with_parameter bytes.now tree self.old) }
@@ -79,7 +80,7 @@ impl<'a> Walk<'a> {
         tree: &Part,
     ) -> Result<Asrt, AllocError>
         ensures made { IfOk result (λ a. a ≡ (part (given_of globals.now) before tree.now self.old).made) }
-        ensures walk { OnOk result (self.new ≡ (part (given_of globals.now) before tree.now self.old).walk) }
+        ensures resolver { OnOk result (self.new ≡ (part (given_of globals.now) before tree.now self.old).resolver) }
     {
         self.note(Occurrence::Part {
             place: tree.open,
@@ -101,7 +102,7 @@ impl<'a> Walk<'a> {
         trees: &[Part],
     ) -> Result<List<Asrt>, AllocError>
         ensures made { IfOk result (λ list. list ≡ so_far ++ (parts (given_of globals.now) 1 trees.now self.old).made) }
-        ensures walk { OnOk result (self.new ≡ (parts (given_of globals.now) 1 trees.now self.old).walk) }
+        ensures resolver { OnOk result (self.new ≡ (parts (given_of globals.now) 1 trees.now self.old).resolver) }
     {
         let mut list = so_far;
         let mut before = 1;
@@ -121,7 +122,7 @@ impl<'a> Walk<'a> {
         more: &[Part],
     ) -> Result<List<Asrt>, AllocError>
         ensures made { IfOk result (λ list. list ≡ (parts (given_of globals.now) 0 (first.now ∷ more.now) self.old).made) }
-        ensures walk { OnOk result (self.new ≡ (parts (given_of globals.now) 0 (first.now ∷ more.now) self.old).walk) }
+        ensures resolver { OnOk result (self.new ≡ (parts (given_of globals.now) 0 (first.now ∷ more.now) self.old).resolver) }
     {
         let mut list = List::new(alloc);
         list.push(self.part(alloc, globals, 0, first)?)?;
@@ -143,15 +144,15 @@ pub fn invariant<'a>(
     tree: &Invariant,
     faults: List<Fault>,
 ) -> Result<Judged<Inv>, AllocError>
-    ensures { IfOk result (λ r. r ≡ record { made = (invariant (given_of globals.now) tree.now faults).made; faults = (invariant (given_of globals.now) tree.now faults).walk.faults }) }
+    ensures { IfOk result (λ r. r ≡ record { made = (invariant (given_of globals.now) tree.now faults).made; faults = (invariant (given_of globals.now) tree.now faults).resolver.faults }) }
 {
-    let mut walk = Walk::fresh(alloc, faults);
-    walk.parameters(globals.bytes, &tree.parameters)?;
-    let params = walk.slots;
-    walk.declare(globals.bytes, tree.value, Sort::Local, MOST_SLOTS)?;
-    let parts = walk.parts(alloc, globals, &tree.first, tree.more.as_slice())?;
+    let mut resolver = Resolver::fresh(alloc, faults);
+    resolver.parameters(globals.bytes, &tree.parameters)?;
+    let params = resolver.slots;
+    resolver.declare(globals.bytes, tree.value, Sort::Local, MOST_SLOTS)?;
+    let parts = resolver.parts(alloc, globals, &tree.first, tree.more.as_slice())?;
     let name = name_text(alloc, globals.bytes, tree.name)?;
-    let Walk { slots, faults, .. } = walk;
+    let Resolver { slots, faults, .. } = resolver;
     Ok(Judged {
         made: Inv {
             name,
@@ -170,7 +171,7 @@ pub struct Contract {
     pub post: Asrt,
 }
 
-impl<'a> Walk<'a> {
+impl<'a> Resolver<'a> {
     /// `requires` and `ensures`
     fn contract(
         &mut self,
@@ -179,7 +180,7 @@ impl<'a> Walk<'a> {
         tree: &Procedure,
     ) -> Result<Contract, AllocError>
         ensures made { IfOk result (λ c. c ≡ (contract (given_of globals.now) tree.now self.old).made) }
-        ensures walk { OnOk result (self.new ≡ (contract (given_of globals.now) tree.now self.old).walk) }
+        ensures resolver { OnOk result (self.new ≡ (contract (given_of globals.now) tree.now self.old).resolver) }
     {
         let outside = self.names.len();
         let before = Setting {
@@ -204,17 +205,17 @@ fn finished<'a>(
     contract: Contract,
     body: List<Stmt>,
     last: Span,
-    walk: Walk<'a>,
+    resolver: Resolver<'a>,
 ) -> Judged<Proc>
-    ensures { result ≡ record { made = record { name = name; params = params; slots = walk.entry.slots; banks = walk.entry.banks; pre = contract.pre; post = contract.post; body = body; last = last }; faults = walk.entry.faults } }
+    ensures { result ≡ record { made = record { name = name; params = params; slots = resolver.entry.slots; banks = resolver.entry.banks; pre = contract.pre; post = contract.post; body = body; last = last }; faults = resolver.entry.faults } }
 {
     let Contract { pre, post } = contract;
-    let Walk {
+    let Resolver {
         slots,
         banks,
         faults,
         ..
-    } = walk;
+    } = resolver;
     Judged {
         made: Proc {
             name,
@@ -237,13 +238,13 @@ pub fn procedure<'a>(
     tree: &Procedure,
     faults: List<Fault>,
 ) -> Result<Judged<Proc>, AllocError>
-    ensures { IfOk result (λ r. r ≡ record { made = (procedure (given_of globals.now) tree.now faults).made; faults = (procedure (given_of globals.now) tree.now faults).walk.faults }) }
+    ensures { IfOk result (λ r. r ≡ record { made = (procedure (given_of globals.now) tree.now faults).made; faults = (procedure (given_of globals.now) tree.now faults).resolver.faults }) }
 {
     let name = name_text(alloc, globals.bytes, tree.name)?;
-    let mut walk = Walk::fresh(alloc, faults);
-    walk.parameters(globals.bytes, &tree.parameters)?;
-    let params = walk.slots;
-    let contract = walk.contract(alloc, globals, tree)?;
-    let body = walk.block(alloc, globals, false, &tree.body)?;
-    Ok(finished(name, params, contract, body, tree.body.close, walk))
+    let mut resolver = Resolver::fresh(alloc, faults);
+    resolver.parameters(globals.bytes, &tree.parameters)?;
+    let params = resolver.slots;
+    let contract = resolver.contract(alloc, globals, tree)?;
+    let body = resolver.block(alloc, globals, false, &tree.body)?;
+    Ok(finished(name, params, contract, body, tree.body.close, resolver))
 }

@@ -1,4 +1,4 @@
-//! What is wrong with a tree that is no program.
+//! What is wrong with a tree that is no program. Which faults a tree has is defined in `specs/Faults.antt`.
 use fsl_base::Span;
 
 /// The kinds of faults. Of several at one place the first in this order is named.
@@ -22,7 +22,7 @@ pub enum TypeKind {
     NoMain,
 }
 
-/// A fault and its place.
+/// A fault and its place, in bytes of the file.
 #[derive(Clone, Copy, Debug, PartialEq, Eq)]
 pub struct Fault {
     pub kind: TypeKind,
@@ -32,7 +32,7 @@ pub struct Fault {
 /// Why a tree is no program.
 #[derive(Clone, Copy, Debug, PartialEq, Eq)]
 pub enum TypeFault {
-    /// The fault with the least place.
+    /// The fault with the least place, in bytes of the file.
     Fault { kind: TypeKind, span: Span },
     /// There was no memory.
     NoMemory,

@@ -1,14 +1,15 @@
-//! The faults of expressions, conditions and arguments.
+//! The faults of expressions, conditions and arguments. They are defined with what is made of these, in
+//! `specs/Expressions.antt`.
 ghost use Rattle.std.specs.Prelude.{◌≡◌, ◌==◌, ◌∷◌, [], drop, length, map, OnOk};
 ghost use Rattle.std.specs.Option.{option_copied};
 ghost use Rattle.fsl_types.specs.Expressions.{arguments_of, banks_of, first_due, first_place, fits, judged_argument, judged_arguments, judged_condition, judged_excluded, judged_expression, judged_factor, judged_name, judged_number, judged_term, judged_use, name_alone, next_value, sight_of};
 
 use crate::fault::Fault;
 use crate::occurrence::{Due, Occurrence};
+use crate::resolver::one_more;
 use crate::rules::note;
 use crate::scope::Scope;
 use crate::variable::Signature;
-use crate::walk::one_more;
 use fsl_base::{List, Span};
 use fsl_tree::{Arguments, Condition, Expression, Factor, NextArgument, Term, Use};
 use std::alloc::AllocError;

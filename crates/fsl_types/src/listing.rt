@@ -1,4 +1,5 @@
-//! The invariants, or the procedures, of a file by their names.
+//! The invariants, or the procedures, of a file by their names. They are defined with the programs, in
+//! `specs/Programs.antt`.
 ghost use Rattle.std.specs.Prelude.{◌≡◌, ◌++◌, IfOk, OnOk, map};
 ghost use Rattle.fsl_types.specs.Programs.{banks_among, invariant_signature, is_bank, next_parameter, nothing_listed, procedure_signature, with_signature};
 
@@ -6,10 +7,10 @@ use crate::assertions::has_modality;
 use crate::fault::Fault;
 use crate::names::text_at;
 use crate::occurrence::Occurrence;
+use crate::resolver::one_more;
 use crate::rules::note;
 use crate::table::Table;
 use crate::variable::Signature;
-use crate::walk::one_more;
 use fsl_base::{List, Span};
 use fsl_tree::{Invariant, NextParameter, Parameter, Parameters, Procedure};
 use std::alloc::{AllocError, Global};

@@ -1,4 +1,4 @@
-//! Expressions over numbered variables.
+//! Expressions over numbered variables. They are defined in `specs/Expressions.antt`.
 ghost use Rattle.std.specs.Prelude.{◌≡◌, ◌++◌, map, IfOk};
 ghost use Rattle.std.specs.Option.{option_copied};
 ghost use Rattle.fsl_types.specs.Expressions.{condition_of, expression_of, factor_of, is_minus, negated, next_value, number_of, numbered_arguments, operator_of, product_of, sum_of, term_of};
@@ -45,7 +45,7 @@ fn negated(alloc: Global, number: Option<u64>, e: Expr) -> Result<Expr, AllocErr
 }
 
 /// A chain of `*`; one factor is no chain.
-#[tactic(auto, using(crate::proofs::Chains::product_of_several))]
+#[tactic(auto, using(crate::proofs::NumberingLemmas::product_of_several))]
 fn product(alloc: Global, first: Expr, more: List<Expr>) -> Result<Expr, AllocError>
     ensures { IfOk result (λ e. e ≡ product_of first more) }
 {
@@ -59,7 +59,7 @@ fn product(alloc: Global, first: Expr, more: List<Expr>) -> Result<Expr, AllocEr
 }
 
 /// A chain of `+` and `-`; one part is no chain.
-#[tactic(auto, using(crate::proofs::Chains::sum_of_several))]
+#[tactic(auto, using(crate::proofs::NumberingLemmas::sum_of_several))]
 fn sum(alloc: Global, first: Expr, more: List<Part>) -> Result<Expr, AllocError>
     ensures { IfOk result (λ e. e ≡ sum_of first more) }
 {

@@ -1,4 +1,4 @@
-//! What a tree has that a rule speaks of, with what is known there.
+//! What a tree has that a rule speaks of, with what is known there. The rules are in `specs/Faults.antt`.
 use crate::variable::Sort;
 use fsl_base::Span;
 use fsl_tree::Mode;

@@ -1,4 +1,4 @@
-//! What is made of a file's tree.
+//! What is made of a file's tree. It is defined with the programs, in `specs/Programs.antt`.
 use crate::fault::Fault;
 use fsl_base::List;
 use fsl_core::{Inv, Proc};

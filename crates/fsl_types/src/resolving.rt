@@ -1,4 +1,5 @@
-//! From the tree of a file to its program.
+//! From the tree of a file to its program. Which program that is, and which faults a tree has, is defined in
+//! `specs/Programs.antt`.
 ghost use Rattle.std.specs.Prelude.{◌≡◌, ◌∷◌, ◌++◌, ◌<◌, ◌^◌, [], IfErr, IfOk, OnOk, length};
 ghost use Rattle.std.specs.Option.{option_copied};
 ghost use Rattle.fsl_types.specs.Given.{given_of};
@@ -221,7 +222,7 @@ fn resolve_all(alloc: Global, bytes: &[u8], file: &File) -> Result<Resolved, All
 /// The program of a file's tree; where the tree is none, its fault with the least place, at one place the first
 /// kind. It takes time in proportion to the size of the file. A predicate and its uses are left out: they are
 /// replaced before.
-#[tactic(auto, using(crate::proofs::Least::none_named))]
+#[tactic(auto, using(crate::proofs::RulesLemmas::none_named))]
 pub fn resolve(alloc: Global, bytes: &[u8], file: &File) -> Result<Program, TypeFault>
     requires { length bytes.now < 2 ^ 32 }
     ensures program { IfOk result (λ p. (faults_of bytes.now file.now ≡ []) × (p ≡ program_of bytes.now file.now)) }

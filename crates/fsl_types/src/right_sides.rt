@@ -1,4 +1,5 @@
-//! What stands to the right of an assignment, over numbered variables and with its faults.
+//! What stands to the right of an assignment, over numbered variables and with its faults. It is defined with
+//! the statements, in `specs/Statements.antt`.
 ghost use Rattle.std.specs.Prelude.{◌≡◌, IfOk, OnOk};
 ghost use Rattle.std.specs.Option.{option_copied};
 ghost use Rattle.fsl_core.specs.declared.act.Act.TheVariants as act;
@@ -6,15 +7,15 @@ ghost use Rattle.fsl_types.specs.declared.occurrence.Access.TheVariants as acces
 ghost use Rattle.fsl_types.specs.Expressions.{expression_of, judged_number, judged_use, number_of, numbered_arguments, sight_of, signature_at};
 ghost use Rattle.fsl_types.specs.Given.{given_of};
 ghost use Rattle.fsl_types.specs.Statements.{allocation_of, is_mint, is_rmw, judged_allocation, judged_mode, judged_right_side, judged_step, judged_steps, mode_of, right_side_of, seen, step_of, steps_of, updated};
-ghost use Rattle.fsl_types.specs.Walks.{judging};
+ghost use Rattle.fsl_types.specs.Resolvers.{judging};
 
 use crate::fault::Fault;
 use crate::given::Globals;
 use crate::numbering::number_of;
 use crate::occurrence::{Access, Due, Occurrence};
+use crate::resolver::Resolver;
 use crate::rules::note;
 use crate::scope::Scope;
-use crate::walk::Walk;
 use fsl_base::List;
 use fsl_core::{Act, Expr, Mode, Step};
 use fsl_tree::{Allocation, Expression, RightSide, SharedCell, StepWord, UpdateWord, Use, With};
@@ -219,7 +220,7 @@ impl<'s, 'a> Scope<'s, 'a> {
     }
 }
 
-impl<'a> Walk<'a> {
+impl<'a> Resolver<'a> {
     /// A call of a procedure: its number and its arguments.
     pub fn call(
         &mut self,
@@ -228,7 +229,7 @@ impl<'a> Walk<'a> {
         tree: &Use,
     ) -> Result<(u32, List<Expr>), AllocError>
         ensures made { IfOk result (λ c. c ≡ (number_of (signature_at globals.now.bytes.now globals.now.procedures tree.now.name), numbered_arguments globals.now.bytes.now self.old.names tree.now.arguments)) }
-        ensures walk { OnOk result (self.new ≡ judging (judged_use (seen (given_of globals.now) self.old) (signature_at globals.now.bytes.now globals.now.procedures tree.now.name) tree.now) self.old) }
+        ensures resolver { OnOk result (self.new ≡ judging (judged_use (seen (given_of globals.now) self.old) (signature_at globals.now.bytes.now globals.now.procedures tree.now.name) tree.now) self.old) }
     {
         let scope = globals.scope(&self.names, false);
         let signature = globals.procedure(tree.name);
@@ -246,7 +247,7 @@ impl<'a> Walk<'a> {
         tree: &Allocation,
     ) -> Result<Act, AllocError>
         ensures made { IfOk result (λ a. a ≡ allocation_of (given_of globals.now) self.old.names slot tree.now) }
-        ensures walk { OnOk result (self.new ≡ judging (judged_allocation (given_of globals.now) (seen (given_of globals.now) self.old) tree.now) self.old) }
+        ensures resolver { OnOk result (self.new ≡ judging (judged_allocation (given_of globals.now) (seen (given_of globals.now) self.old) tree.now) self.old) }
     {
         match tree {
             Allocation::NonAtomic { .. } => Ok(Act::AllocNa { slot }),
@@ -273,7 +274,7 @@ impl<'a> Walk<'a> {
         location: &Expression,
     ) -> Result<Act, AllocError>
         ensures made { IfOk result (λ a. a ≡ act.Load slot (mode_of how) (expression_of globals.now.bytes.now self.old.names location.now)) }
-        ensures walk { OnOk result (self.new ≡ judging (λ faults. judged_number (seen (given_of globals.now) self.old) location.now (judged_mode accesses.Load how faults)) self.old) }
+        ensures resolver { OnOk result (self.new ≡ judging (λ faults. judged_number (seen (given_of globals.now) self.old) location.now (judged_mode accesses.Load how faults)) self.old) }
     {
         let scope = globals.scope(&self.names, false);
         judge_mode(&mut self.faults, Access::Load, how)?;
@@ -297,7 +298,7 @@ impl<'a> Walk<'a> {
         along: &Option<With>,
     ) -> Result<Act, AllocError>
         ensures made { IfOk result (λ a. a ≡ act.Cas slot (mode_of modes.0) (mode_of modes.1) (expression_of globals.now.bytes.now self.old.names operands.entry.0.now) (expression_of globals.now.bytes.now self.old.names operands.entry.1.now) (expression_of globals.now.bytes.now self.old.names operands.entry.2.now) (steps_of globals.now.bytes.now self.old.names along.now)) }
-        ensures walk { OnOk result (self.new ≡ judging (λ faults. judged_steps (seen (given_of globals.now) self.old) along.now (judged_number (seen (given_of globals.now) self.old) operands.entry.2.now (judged_number (seen (given_of globals.now) self.old) operands.entry.1.now (judged_number (seen (given_of globals.now) self.old) operands.entry.0.now (judged_mode accesses.Failure modes.1 (judged_mode accesses.Update modes.0 faults)))))) self.old) }
+        ensures resolver { OnOk result (self.new ≡ judging (λ faults. judged_steps (seen (given_of globals.now) self.old) along.now (judged_number (seen (given_of globals.now) self.old) operands.entry.2.now (judged_number (seen (given_of globals.now) self.old) operands.entry.1.now (judged_number (seen (given_of globals.now) self.old) operands.entry.0.now (judged_mode accesses.Failure modes.1 (judged_mode accesses.Update modes.0 faults)))))) self.old) }
     {
         let scope = globals.scope(&self.names, false);
         let (success, failure) = modes;
@@ -318,7 +319,7 @@ impl<'a> Walk<'a> {
         along: &Option<With>,
     ) -> Result<Act, AllocError>
         ensures made { IfOk result (λ a. a ≡ updated word slot (mode_of how) (expression_of globals.now.bytes.now self.old.names operands.entry.0.now) (expression_of globals.now.bytes.now self.old.names operands.entry.1.now) (steps_of globals.now.bytes.now self.old.names along.now)) }
-        ensures walk { OnOk result (self.new ≡ judging (λ faults. judged_steps (seen (given_of globals.now) self.old) along.now (judged_number (seen (given_of globals.now) self.old) operands.entry.1.now (judged_number (seen (given_of globals.now) self.old) operands.entry.0.now (judged_mode accesses.Update how faults)))) self.old) }
+        ensures resolver { OnOk result (self.new ≡ judging (λ faults. judged_steps (seen (given_of globals.now) self.old) along.now (judged_number (seen (given_of globals.now) self.old) operands.entry.1.now (judged_number (seen (given_of globals.now) self.old) operands.entry.0.now (judged_mode accesses.Update how faults)))) self.old) }
     {
         let scope = globals.scope(&self.names, false);
         judge_mode(&mut self.faults, Access::Update, how)?;
@@ -335,7 +336,7 @@ impl<'a> Walk<'a> {
         tree: &RightSide,
     ) -> Result<Act, AllocError>
         ensures made { IfOk result (λ a. a ≡ right_side_of (given_of globals.now) self.old.names slot tree.now) }
-        ensures walk { OnOk result (self.new ≡ judging (judged_right_side (given_of globals.now) (seen (given_of globals.now) self.old) tree.now) self.old) }
+        ensures resolver { OnOk result (self.new ≡ judging (judged_right_side (given_of globals.now) (seen (given_of globals.now) self.old) tree.now) self.old) }
     {
         match tree {
             RightSide::Value { value } => {

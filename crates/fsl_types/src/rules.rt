@@ -1,7 +1,8 @@
 //! The rules of names and types, each by its kind of fault: what breaks it, and which fault of several is named.
+//! They are defined in `specs/Faults.antt`.
 ghost use Rattle.std.specs.Prelude.{◌≡◌, [], ◌∷◌, ◌++◌, length, OnOk, if◌then◌else◌};
 ghost use Rattle.fsl_types.specs.Faults.{breaks, faults_at, fault_at, goes_before, has_mode, is_due, is_ill_typed, is_miscounted, is_misfit, is_modal, is_no_part, is_twice, is_unknown, lacks_main, least_fault, least_from, place_of, place_of_mode, rank};
-ghost use Rattle.fsl_types.specs.Walks.{noted};
+ghost use Rattle.fsl_types.specs.Resolvers.{noted};
 
 use crate::fault::{Fault, TypeKind};
 use crate::occurrence::{Access, Due, Occurrence};

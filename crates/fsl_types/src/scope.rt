@@ -1,4 +1,4 @@
-//! Where a name is looked up, and which variable it is.
+//! Where a name is looked up, and which variable it is. What is found is defined in `specs/Names.antt`.
 ghost use Rattle.std.specs.Prelude.{◌≡◌};
 ghost use Rattle.fsl_types.specs.Names.{slot_at, sort_at};
 

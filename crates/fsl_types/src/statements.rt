@@ -9,14 +9,14 @@ ghost use Rattle.fsl_types.specs.Assertions.{apart, clause};
 ghost use Rattle.fsl_types.specs.Expressions.{expression_of, in_turn, judged_name, judged_number};
 ghost use Rattle.fsl_types.specs.Given.{given_of};
 ghost use Rattle.fsl_types.specs.Names.{slot_at};
-ghost use Rattle.fsl_types.specs.Statements.{block, called, fence, in_loop_invariant, is_modal, is_simple, judged_call, judged_mode, judged_parallel, judged_return, judged_right_side, judged_step, mode_of, release_mode, returned, right_side_of, run_each, seen, statement, step_of, step_place, stmt};
-ghost use Rattle.fsl_types.specs.Walks.{declared, judging};
+ghost use Rattle.fsl_types.specs.Statements.{block, called, fence, in_loop_invariant, is_effect, is_modal, is_simple, is_unnamed, judged_call, judged_mode, judged_parallel, judged_return, judged_right_side, judged_step, mode_of, release_mode, returned, right_side_of, run_each, seen, statement, step_of, step_place, stmt};
+ghost use Rattle.fsl_types.specs.Resolvers.{declared, judging};
 
 use crate::given::{Globals, Setting};
 use crate::occurrence::{Access, Due, Occurrence};
+use crate::resolver::Resolver;
 use crate::right_sides::{judge_mode, mode};
 use crate::variable::{Signature, Sort};
-use crate::walk::Walk;
 use fsl_base::{List, Span};
 use fsl_core::{Act, Asrt, Called, Cond, Expr, Mode, Stmt};
 use fsl_tree::{
@@ -64,7 +64,7 @@ fn is_modal(signature: Option<&Signature>) -> bool
     }
 }
 
-impl<'a> Walk<'a> {
+impl<'a> Resolver<'a> {
     /// `let`: the right side is read before its name is declared.
     fn let_act(
         &mut self,
@@ -74,7 +74,7 @@ impl<'a> Walk<'a> {
         right: &RightSide,
     ) -> Result<Act, AllocError>
         ensures made { IfOk result (λ a. a ≡ right_side_of (given_of globals.now) self.old.names self.old.slots right.now) }
-        ensures walk { OnOk result (self.new ≡ declared 256 globals.now.bytes.now name sorts.Local (judging (judged_right_side (given_of globals.now) (seen (given_of globals.now) self.old) right.now) self.old)) }
+        ensures resolver { OnOk result (self.new ≡ declared 256 globals.now.bytes.now name sorts.Local (judging (judged_right_side (given_of globals.now) (seen (given_of globals.now) self.old) right.now) self.old)) }
     {
         let act = self.right_side(alloc, globals, self.slots, right)?;
         self.declare_with(globals.bytes, name, act)
@@ -83,7 +83,7 @@ impl<'a> Walk<'a> {
     /// Declares the variable that an act sets, and gives the act back.
     fn declare_with(&mut self, bytes: &'a [u8], name: Span, act: Act) -> Result<Act, AllocError>
         ensures made { IfOk result (λ a. a ≡ act) }
-        ensures walk { OnOk result (self.new ≡ declared 256 bytes.now name sorts.Local self.old) }
+        ensures resolver { OnOk result (self.new ≡ declared 256 bytes.now name sorts.Local self.old) }
     {
         // (without a branch: the layout of an act on two ways at once outgrows the memory of the check)
         self.declare(bytes, name, Sort::Local, 256).and(Ok(act))
@@ -98,7 +98,7 @@ impl<'a> Walk<'a> {
         right: &RightSide,
     ) -> Result<Act, AllocError>
         ensures made { IfOk result (λ a. a ≡ right_side_of (given_of globals.now) self.old.names (slot_at globals.now.bytes.now self.old.names name) right.now) }
-        ensures walk { OnOk result (self.new ≡ judging (λ faults. judged_right_side (given_of globals.now) (seen (given_of globals.now) self.old) right.now (judged_name (seen (given_of globals.now) self.old) due.Target name faults)) self.old) }
+        ensures resolver { OnOk result (self.new ≡ judging (λ faults. judged_right_side (given_of globals.now) (seen (given_of globals.now) self.old) right.now (judged_name (seen (given_of globals.now) self.old) due.Target name faults)) self.old) }
     {
         let scope = globals.scope(&self.names, false);
         scope.judge_name(Due::Target, &mut self.faults, name)?;
@@ -116,7 +116,7 @@ impl<'a> Walk<'a> {
         stored: &Expression,
     ) -> Result<Act, AllocError>
         ensures made { IfOk result (λ a. a ≡ act.Store (mode_of how) (expression_of globals.now.bytes.now self.old.names location.now) (expression_of globals.now.bytes.now self.old.names stored.now)) }
-        ensures walk { OnOk result (self.new ≡ judging (λ faults. judged_number (seen (given_of globals.now) self.old) stored.now (judged_number (seen (given_of globals.now) self.old) location.now (judged_mode accesses.Store how faults))) self.old) }
+        ensures resolver { OnOk result (self.new ≡ judging (λ faults. judged_number (seen (given_of globals.now) self.old) stored.now (judged_number (seen (given_of globals.now) self.old) location.now (judged_mode accesses.Store how faults))) self.old) }
     {
         let scope = globals.scope(&self.names, false);
         judge_mode(&mut self.faults, Access::Store, how)?;
@@ -139,7 +139,7 @@ impl<'a> Walk<'a> {
         tree: &ParallelCall,
     ) -> Result<Called, AllocError>
         ensures made { IfOk result (λ c. c ≡ called (given_of globals.now) self.old.names tree.now) }
-        ensures walk { OnOk result (self.new ≡ judging (judged_call (given_of globals.now) (seen (given_of globals.now) self.old) tree.now) self.old) }
+        ensures resolver { OnOk result (self.new ≡ judging (judged_call (given_of globals.now) (seen (given_of globals.now) self.old) tree.now) self.old) }
     {
         self.note(Occurrence::Child {
             place: tree.callee.name,
@@ -157,7 +157,7 @@ impl<'a> Walk<'a> {
         trees: &[ParallelCall],
     ) -> Result<List<Called>, AllocError>
         ensures made { IfOk result (λ list. list ≡ map (called (given_of globals.now) self.old.names) trees.now) }
-        ensures walk { OnOk result (self.new ≡ judging (in_turn (map (judged_call (given_of globals.now) (seen (given_of globals.now) self.old)) trees.now)) self.old) }
+        ensures resolver { OnOk result (self.new ≡ judging (in_turn (map (judged_call (given_of globals.now) (seen (given_of globals.now) self.old)) trees.now)) self.old) }
     {
         let mut calls = List::new(alloc);
         for tree in trees {
@@ -175,7 +175,7 @@ impl<'a> Walk<'a> {
         trees: &[ParallelCall],
     ) -> Result<Act, AllocError>
         ensures made { IfOk result (λ a. a ≡ act.Par (map (called (given_of globals.now) self.old.names) trees.now)) }
-        ensures walk { OnOk result (self.new ≡ judging (judged_parallel (given_of globals.now) (seen (given_of globals.now) self.old) word trees.now) self.old) }
+        ensures resolver { OnOk result (self.new ≡ judging (judged_parallel (given_of globals.now) (seen (given_of globals.now) self.old) word trees.now) self.old) }
     {
         self.note(Occurrence::Parallel {
             place: word,
@@ -193,7 +193,7 @@ impl<'a> Walk<'a> {
         tree: &FenceKind,
     ) -> Result<Act, AllocError>
         ensures made { IfOk result (λ a. a ≡ (fence (given_of globals.now) tree.now self.old).made) }
-        ensures walk { OnOk result (self.new ≡ (fence (given_of globals.now) tree.now self.old).walk) }
+        ensures resolver { OnOk result (self.new ≡ (fence (given_of globals.now) tree.now self.old).resolver) }
     {
         match tree {
             FenceKind::Acquire { .. } => Ok(Act::Fence {
@@ -226,7 +226,7 @@ impl<'a> Walk<'a> {
         tree: &Option<Clause>,
     ) -> Result<Asrt, AllocError>
         ensures made { IfOk result (λ a. a ≡ (apart (clause (given_of globals.now) tree.now) in_loop_invariant self.old).made) }
-        ensures walk { OnOk result (self.new ≡ (apart (clause (given_of globals.now) tree.now) in_loop_invariant self.old).walk) }
+        ensures resolver { OnOk result (self.new ≡ (apart (clause (given_of globals.now) tree.now) in_loop_invariant self.old).resolver) }
     {
         let outside = self.names.len();
         let setting = Setting {
@@ -248,7 +248,7 @@ impl<'a> Walk<'a> {
         tree: &Option<Expression>,
     ) -> Result<Act, AllocError>
         ensures made { IfOk result (λ a. a ≡ act.Return (returned (given_of globals.now) self.old.names tree.now)) }
-        ensures walk { OnOk result (self.new ≡ judging (judged_return (seen (given_of globals.now) self.old) in_loop word tree.now) self.old) }
+        ensures resolver { OnOk result (self.new ≡ judging (judged_return (seen (given_of globals.now) self.old) in_loop word tree.now) self.old) }
     {
         self.note(Occurrence::Return {
             place: word,
@@ -272,7 +272,7 @@ impl<'a> Walk<'a> {
         tree: &Expression,
     ) -> Result<Expr, AllocError>
         ensures made { IfOk result (λ e. e ≡ expression_of globals.now.bytes.now self.old.names tree.now) }
-        ensures walk { OnOk result (self.new ≡ judging (judged_number (seen (given_of globals.now) self.old) tree.now) self.old) }
+        ensures resolver { OnOk result (self.new ≡ judging (judged_number (seen (given_of globals.now) self.old) tree.now) self.old) }
     {
         let scope = globals.scope(&self.names, false);
         scope.judge_number(&mut self.faults, tree)?;
@@ -287,7 +287,7 @@ impl<'a> Walk<'a> {
         tree: &fsl_tree::Step,
     ) -> Result<Act, AllocError>
         ensures made { IfOk result (λ a. a ≡ act.Step (step_of globals.now.bytes.now self.old.names tree.now)) }
-        ensures walk { OnOk result (self.new ≡ judging (judged_step (seen (given_of globals.now) self.old) tree.now) self.old) }
+        ensures resolver { OnOk result (self.new ≡ judging (judged_step (seen (given_of globals.now) self.old) tree.now) self.old) }
     {
         let scope = globals.scope(&self.names, false);
         scope.judge_step(&mut self.faults, tree)?;
@@ -298,7 +298,7 @@ impl<'a> Walk<'a> {
     /// A bank, which takes the next slot.
     fn bank(&mut self, globals: &Globals<'a>, name: Span) -> Result<Act, AllocError>
         ensures made { IfOk result (λ a. a ≡ act.Bank self.old.slots) }
-        ensures walk { OnOk result (self.new ≡ declared 256 globals.now.bytes.now name sorts.Bank self.old) }
+        ensures resolver { OnOk result (self.new ≡ declared 256 globals.now.bytes.now name sorts.Bank self.old) }
     {
         let slot = self.slots;
         self.declare(globals.bytes, name, Sort::Bank, 256)?;
@@ -315,7 +315,7 @@ impl<'a> Walk<'a> {
     ) -> Result<Stmt, AllocError>
         requires { IsTrue (is_simple tree.now) }
         ensures made { IfOk result (λ s. s ≡ (statement (given_of globals.now) tree.now in_loop self.old).made) }
-        ensures walk { OnOk result (self.new ≡ (statement (given_of globals.now) tree.now in_loop self.old).walk) }
+        ensures resolver { OnOk result (self.new ≡ (statement (given_of globals.now) tree.now in_loop self.old).resolver) }
     {
         match tree {
             Statement::Let {
@@ -337,17 +337,32 @@ impl<'a> Walk<'a> {
                 let act = self.assignment(alloc, globals, *name, right)?;
                 Ok(stmt(*name, *semicolon, act))
             }
-            Statement::Store {
+            Statement::Bank {
                 word,
-                mode: how,
-                location,
-                value,
+                name,
                 semicolon,
-                ..
             } => {
-                let act = self.store(alloc, globals, *how, location, value)?;
+                let act = self.bank(globals, *name)?;
                 Ok(stmt(*word, *semicolon, act))
             }
+            Statement::If { .. } | Statement::While { .. } => unreachable!(),
+            _ => self.unnamed(alloc, globals, in_loop, tree),
+        }
+    }
+
+    /// One that declares and sets no variable.
+    fn unnamed(
+        &mut self,
+        alloc: Global,
+        globals: &Globals<'a>,
+        in_loop: bool,
+        tree: &Statement,
+    ) -> Result<Stmt, AllocError>
+        requires { IsTrue (is_unnamed tree.now) }
+        ensures made { IfOk result (λ s. s ≡ (statement (given_of globals.now) tree.now in_loop self.old).made) }
+        ensures resolver { OnOk result (self.new ≡ (statement (given_of globals.now) tree.now in_loop self.old).resolver) }
+    {
+        match tree {
             Statement::Call {
                 word,
                 callee,
@@ -370,6 +385,14 @@ impl<'a> Walk<'a> {
                 let act = self.parallel(alloc, globals, *word, calls.as_slice())?;
                 Ok(stmt(*word, *close, act))
             }
+            Statement::Return {
+                word,
+                value,
+                semicolon,
+            } => {
+                let act = self.result(alloc, globals, in_loop, *word, value)?;
+                Ok(stmt(*word, *semicolon, act))
+            }
             Statement::Fence {
                 word,
                 kind,
@@ -377,6 +400,43 @@ impl<'a> Walk<'a> {
             } => {
                 let act = self.fence(alloc, globals, kind)?;
                 Ok(stmt(*word, *semicolon, act))
+            }
+            _ => self.effect(alloc, globals, in_loop, tree),
+        }
+    }
+
+    /// One that only reads, writes, frees, checks, prints, or steps tokens.
+    fn effect(
+        &mut self,
+        alloc: Global,
+        globals: &Globals<'a>,
+        in_loop: bool,
+        tree: &Statement,
+    ) -> Result<Stmt, AllocError>
+        requires { IsTrue (is_effect tree.now) }
+        ensures made { IfOk result (λ s. s ≡ (statement (given_of globals.now) tree.now in_loop self.old).made) }
+        ensures resolver { OnOk result (self.new ≡ (statement (given_of globals.now) tree.now in_loop self.old).resolver) }
+    {
+        match tree {
+            Statement::Store {
+                word,
+                mode: how,
+                location,
+                value,
+                semicolon,
+                ..
+            } => {
+                let act = self.store(alloc, globals, *how, location, value)?;
+                Ok(stmt(*word, *semicolon, act))
+            }
+            Statement::Free {
+                word,
+                location,
+                semicolon,
+                ..
+            } => {
+                let at = self.plain_number(alloc, globals, location)?;
+                Ok(stmt(*word, *semicolon, Act::Free { at }))
             }
             Statement::Assert {
                 word,
@@ -396,36 +456,11 @@ impl<'a> Walk<'a> {
                 let e = self.plain_number(alloc, globals, value)?;
                 Ok(stmt(*word, *semicolon, Act::Print { e }))
             }
-            Statement::Free {
-                word,
-                location,
-                semicolon,
-                ..
-            } => {
-                let at = self.plain_number(alloc, globals, location)?;
-                Ok(stmt(*word, *semicolon, Act::Free { at }))
-            }
-            Statement::Return {
-                word,
-                value,
-                semicolon,
-            } => {
-                let act = self.result(alloc, globals, in_loop, *word, value)?;
-                Ok(stmt(*word, *semicolon, act))
-            }
-            Statement::Bank {
-                word,
-                name,
-                semicolon,
-            } => {
-                let act = self.bank(globals, *name)?;
-                Ok(stmt(*word, *semicolon, act))
-            }
             Statement::Step { step, semicolon } => {
                 let act = self.token_step(alloc, globals, step)?;
                 Ok(stmt(step_place(step.word), *semicolon, act))
             }
-            Statement::If { .. } | Statement::While { .. } => unreachable!(),
+            _ => unreachable!(),
         }
     }
 
@@ -439,7 +474,7 @@ impl<'a> Walk<'a> {
         tree: &Statement,
     ) -> Result<Stmt, AllocError>
         ensures made { IfOk result (λ s. s ≡ (statement (given_of globals.now) tree.now in_loop self.old).made) }
-        ensures walk { OnOk result (self.new ≡ (statement (given_of globals.now) tree.now in_loop self.old).walk) }
+        ensures resolver { OnOk result (self.new ≡ (statement (given_of globals.now) tree.now in_loop self.old).resolver) }
     {
         match tree {
             Statement::If {
@@ -493,7 +528,7 @@ impl<'a> Walk<'a> {
         trees: &[Statement],
     ) -> Result<List<Stmt>, AllocError>
         ensures made { IfOk result (λ list. list ≡ (run_each (map (statement (given_of globals.now)) trees.now) in_loop self.old).made) }
-        ensures walk { OnOk result (self.new ≡ (run_each (map (statement (given_of globals.now)) trees.now) in_loop self.old).walk) }
+        ensures resolver { OnOk result (self.new ≡ (run_each (map (statement (given_of globals.now)) trees.now) in_loop self.old).resolver) }
     {
         let mut list = List::new(alloc);
         for tree in trees {
@@ -512,7 +547,7 @@ impl<'a> Walk<'a> {
         tree: &Block,
     ) -> Result<List<Stmt>, AllocError>
         ensures made { IfOk result (λ list. list ≡ ((block (given_of globals.now) tree.now).runs in_loop self.old).made) }
-        ensures walk { OnOk result (self.new ≡ ((block (given_of globals.now) tree.now).runs in_loop self.old).walk) }
+        ensures resolver { OnOk result (self.new ≡ ((block (given_of globals.now) tree.now).runs in_loop self.old).resolver) }
     {
         let outside = self.names.len();
         let list = self.statements(alloc, globals, in_loop, tree.statements.as_slice())?;

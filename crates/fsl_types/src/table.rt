@@ -1,5 +1,5 @@
 //! Names with what stands behind them, in the order in which they were declared. A name is looked up by its
-//! bytes, in constant time.
+//! bytes, in constant time. As a list of names it is defined in `specs/Names.antt`.
 ghost use Rattle.std.specs.Prelude.{◌≡◌, [], length, take, OnOk, OnErr};
 ghost use Rattle.std.specs.Option.{option_copied};
 ghost use Rattle.fsl_types.specs.Names.{found, with_name};

@@ -1,4 +1,5 @@
-//! What is known of names: of variables, and of invariants and procedures where they are used.
+//! What is known of names: of variables, and of invariants and procedures where they are used. How it is found is
+//! defined in `specs/Names.antt`.
 use fsl_base::List;
 
 /// What a variable holds, and whether it may be assigned.
@@ -15,6 +16,7 @@ pub enum Sort {
 /// A variable.
 #[derive(Clone, Copy, Debug, PartialEq, Eq)]
 pub struct Variable {
+    /// Its number among those of the procedure or the invariant, below 256.
     pub slot: u32,
     pub sort: Sort,
 }
@@ -22,7 +24,7 @@ pub struct Variable {
 /// An invariant or a procedure, as its uses see it.
 #[derive(Drop)]
 pub struct Signature {
-    /// How many of its kind are declared before it.
+    /// How many of its kind are declared before it, at most 4096.
     pub number: u32,
     /// For each parameter whether it is a bank.
     pub banks: List<bool>,

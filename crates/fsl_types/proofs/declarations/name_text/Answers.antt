@@ -1,4 +1,4 @@
-use Rattle.fsl_types.proofs.Spellings.{copied_name, no_name}
+use Rattle.fsl_types.proofs.NamesLemmas.{copied_name, no_name}
 use Rattle.fsl_types.proofs.declarations.name_text.Goals as goal
 
 pub returns-in-Ok : goal.returns-in-Ok

@@ -1,7 +1,7 @@
 use Rattle.std.proofs.Common.{ap, sym, ◌∙◌}
 use Rattle.fsl_types.specs.Faults.{least_fault}
-use Rattle.fsl_types.proofs.FittingPrograms.{never_refused}
-use Rattle.fsl_types.proofs.Least.{none_named}
+use Rattle.fsl_types.proofs.ProgramsLemmas.{never_refused}
+use Rattle.fsl_types.proofs.RulesLemmas.{none_named}
 use Rattle.fsl_types.proofs.resolving.resolve.Goals as goal
 
 -- what has no faults is well formed

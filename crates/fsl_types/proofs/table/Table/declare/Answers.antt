@@ -2,7 +2,7 @@ use Rattle.std.proofs.Common.{◌≡◌, take, sym, ap, ◌∙◌, is_some}
 use Rattle.std.specs.Option.{option_copied}
 use Rattle.std.specs.Str.{bytes_eq}
 use Rattle.fsl_types.specs.Names.{found, with_name}
-use Rattle.fsl_types.proofs.Tables.{in_sight, lookup_in_sight, is_some_copied, inserted_name, with_name_there}
+use Rattle.fsl_types.proofs.TableLemmas.{in_sight, lookup_in_sight, is_some_copied, inserted_name, with_name_there}
 use Rattle.fsl_types.proofs.table.Table.declare.Goals as goal
 
 pub returns-then-is_some : goal.returns-then-is_some

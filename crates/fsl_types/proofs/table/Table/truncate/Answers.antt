@@ -3,7 +3,7 @@ use Rattle.std.specs.Option.{option_copied}
 use Rattle.std.specs.Str.{bytes_eq}
 use Rattle.fsl_types.specs.Names.{found, with_name}
 use Rattle.std.proofs.lemmas.List.{take-map}
-use Rattle.fsl_types.proofs.Tables.{in_sight}
+use Rattle.fsl_types.proofs.TableLemmas.{in_sight}
 use Rattle.fsl_types.proofs.table.Table.truncate.Goals as goal
 
 pub returns : goal.returns

@@ -38,13 +38,13 @@ use Rattle.fsl_types.specs.declared.fault.Fault.{Fault}
 use Rattle.fsl_types.specs.declared.given.Setting.{Setting}
 use Rattle.fsl_types.specs.declared.occurrence.Occurrence.TheVariants as occurrence
 use Rattle.fsl_types.specs.declared.variable.Signature.{Signature}
-use Rattle.fsl_types.specs.declared.walk.Walk.{Walk}
+use Rattle.fsl_types.specs.declared.resolver.Resolver.{Resolver}
 use Rattle.fsl_types.specs.Assertions.{Reads, apart, assertion, assertion_step, atom, atom_step, both_of, choice, clause, conjunct, conjunct_step, each, has_modality, is_modal_assertion, is_modal_atom, is_modal_conjunct, judged_acquire, judged_permission, judged_share, last_part_of, modal_assertion_step, modal_conjunct_step, modal_step, modality, part_number, pattern, relation, sight, tokens, unmodal}
 use Rattle.fsl_types.specs.Expressions.{Sight, arguments_of, fits, instance_of, judged_number, judged_use, number_of, numbered_arguments, signature_at}
 use Rattle.fsl_types.specs.Given.{Given}
 use Rattle.fsl_types.specs.Names.{Names, Signatures, found, text_at}
-use Rattle.fsl_types.specs.Walks.{noted}
-use Rattle.fsl_types.proofs.Growing.{Grows, Keeps, condition_grows, excluded_grows, noted_grows, noted_keeps, number_grows, use_grows, use_keeps}
+use Rattle.fsl_types.specs.Resolvers.{noted}
+use Rattle.fsl_types.proofs.ExpressionsLemmas.{Grows, Keeps, condition_grows, excluded_grows, noted_grows, noted_keeps, number_grows, use_grows, use_keeps}
 
 -- ---- invariants by name
 
@@ -102,34 +102,34 @@ layer_fits invs a layer flag is fit =
 -- Whatever is read without faults fits. Whether modalities may stand where it is used counts only if it has one, and is
 -- then what the setting says.
 pub record Fitting (invs : List Inv) (given : Given) (modal : Bool) (reads : Reads) : Type 0 where
-  pub grows : (setting : Setting) (walk : Walk) → (reads setting walk).walk.faults ≡ [] → walk.faults ≡ []
-  pub fits : HasInvariants invs given → (setting : Setting) (walk : Walk) (flag : Bool) → (modal ≡ true → setting.modal ≡ flag)
-      → (reads setting walk).walk.faults ≡ [] → asrt_fits invs (reads setting walk).made flag ≡ true
+  pub grows : (setting : Setting) (resolver : Resolver) → (reads setting resolver).resolver.faults ≡ [] → resolver.faults ≡ []
+  pub fits : HasInvariants invs given → (setting : Setting) (resolver : Resolver) (flag : Bool) → (modal ≡ true → setting.modal ≡ flag)
+      → (reads setting resolver).resolver.faults ≡ [] → asrt_fits invs (reads setting resolver).made flag ≡ true
 
 -- a part that uses no invariant and holds no other
-plain : (invs : List Inv) (given : Given) (reads : Reads) → ((setting : Setting) (walk : Walk) → (reads setting walk).walk.faults ≡ [] → walk.faults ≡ [])
-    → ((setting : Setting) (walk : Walk) (flag : Bool) → asrt_fits invs (reads setting walk).made flag ≡ true) → Fitting invs given false reads
-plain invs given reads grow fit = record { grows = grow; fits = λ has setting walk flag may none. fit setting walk flag }
+plain : (invs : List Inv) (given : Given) (reads : Reads) → ((setting : Setting) (resolver : Resolver) → (reads setting resolver).resolver.faults ≡ [] → resolver.faults ≡ [])
+    → ((setting : Setting) (resolver : Resolver) (flag : Bool) → asrt_fits invs (reads setting resolver).made flag ≡ true) → Fitting invs given false reads
+plain invs given reads grow fit = record { grows = grow; fits = λ has setting resolver flag may none. fit setting resolver flag }
 
 share_grows : (seen : Sight) (share : Option Share) → Grows (judged_share seen share)
 share_grows seen None faults none = none
 share_grows seen (Some share) faults none = number_grows seen share.amount faults none
 
-pattern_grows : (given : Given) (setting : Setting) (value : Pattern) (walk : Walk) → (pattern given setting value walk).walk.faults ≡ [] → walk.faults ≡ []
-pattern_grows given setting (patterns.Any place) walk none = none
-pattern_grows given setting (patterns.Binder mark name) walk none = noted_grows walk.faults _ none
-pattern_grows given setting (patterns.Value value) walk none = number_grows (sight given setting.in_ensures walk) value walk.faults none
+pattern_grows : (given : Given) (setting : Setting) (value : Pattern) (resolver : Resolver) → (pattern given setting value resolver).resolver.faults ≡ [] → resolver.faults ≡ []
+pattern_grows given setting (patterns.Any place) resolver none = none
+pattern_grows given setting (patterns.Binder mark name) resolver none = noted_grows resolver.faults _ none
+pattern_grows given setting (patterns.Value value) resolver none = number_grows (sight given setting.in_ensures resolver) value resolver.faults none
 
-relation_fits : (invs : List Inv) (given : Given) (left : Expression) (how : Relation) → Fitting invs given false (λ setting walk. relation given setting left how walk)
+relation_fits : (invs : List Inv) (given : Given) (left : Expression) (how : Relation) → Fitting invs given false (λ setting resolver. relation given setting left how resolver)
 relation_fits invs given left (relations.Compared comparison right) = record {
-  grows = λ setting walk none. condition_grows (sight given setting.in_ensures walk) (conditions.Compared left comparison right) walk.faults none;
-  fits = λ has setting walk flag may none. layer_fits invs _ (Asrt-F.Fact _) flag (rolls-Fact _) refl;
+  grows = λ setting resolver none. condition_grows (sight given setting.in_ensures resolver) (conditions.Compared left comparison right) resolver.faults none;
+  fits = λ has setting resolver flag may none. layer_fits invs _ (Asrt-F.Fact _) flag (rolls-Fact _) refl;
 }
 relation_fits invs given left (relations.PointsTo arrow share value) = record {
-  grows = λ setting walk none.
-      let seen = sight given setting.in_ensures walk in
-      number_grows seen left walk.faults (share_grows seen share _ (pattern_grows given setting value _ none));
-  fits = λ has setting walk flag may none. layer_fits invs _ (Asrt-F.Points _ _ _) flag (rolls-Points _ _ _) refl;
+  grows = λ setting resolver none.
+      let seen = sight given setting.in_ensures resolver in
+      number_grows seen left resolver.faults (share_grows seen share _ (pattern_grows given setting value _ none));
+  fits = λ has setting resolver flag may none. layer_fits invs _ (Asrt-F.Points _ _ _) flag (rolls-Points _ _ _) refl;
 }
 
 permission_fits : (invs : List Inv) (given : Given) (seen : Sight) (names : Names) (location : Expression) (u : Use) (faults : List Fault) → HasInvariants invs given
@@ -147,16 +147,16 @@ acquire_numbered : (seen : Sight) (signatures : Signatures) (location : Expressi
     → noted (occurrence.PartNumber part value (last_part_of (signature_at seen.bytes signatures u.name))) (judged_permission seen signatures location u faults) ≡ []
 acquire_numbered seen signatures location u part value excluded faults none = excluded_grows seen 0 (arguments_of excluded) _ none
 
-tokens_fit : (invs : List Inv) (given : Given) (walk : Walk) (word : BankWord) (bank : Span) (amount : Expression) (flag : Bool)
-    → asrt_fits invs (tokens given walk word bank amount) flag ≡ true
-tokens_fit invs given walk (bank_words.Tok place) bank amount flag = layer_fits invs _ (Asrt-F.Tok _ _) flag (rolls-Tok _ _) refl
-tokens_fit invs given walk (bank_words.Auth place) bank amount flag = layer_fits invs _ (Asrt-F.Auth _ _) flag (rolls-Auth _ _) refl
+tokens_fit : (invs : List Inv) (given : Given) (resolver : Resolver) (word : BankWord) (bank : Span) (amount : Expression) (flag : Bool)
+    → asrt_fits invs (tokens given resolver word bank amount) flag ≡ true
+tokens_fit invs given resolver (bank_words.Tok place) bank amount flag = layer_fits invs _ (Asrt-F.Tok _ _) flag (rolls-Tok _ _) refl
+tokens_fit invs given resolver (bank_words.Auth place) bank amount flag = layer_fits invs _ (Asrt-F.Auth _ _) flag (rolls-Auth _ _) refl
 
 choice_fits : (invs : List Inv) (given : Given) (condition : Condition) (m n : Bool) (first second : Reads) → Fitting invs given m first → Fitting invs given n second
     → Fitting invs given (m || n) (choice given condition first second)
 choice_fits invs given condition m n first second one other = record {
-  grows = λ setting walk none. condition_grows (sight given setting.in_ensures walk) condition walk.faults (one.grows setting _ (other.grows setting _ none));
-  fits = λ has setting walk flag may none.
+  grows = λ setting resolver none. condition_grows (sight given setting.in_ensures resolver) condition resolver.faults (one.grows setting _ (other.grows setting _ none));
+  fits = λ has setting resolver flag may none.
       let first_none = other.grows setting _ none in
       layer_fits invs _ (Asrt-F.Choice _ _ _) flag (rolls-Choice _ _ _)
       (and_from _ _ (one.fits has setting _ flag (λ is. may (or_left m n is)) first_none) (other.fits has setting _ flag (λ is. may (or_right m n is)) none));
@@ -168,19 +168,19 @@ choice_fits invs given condition m n first second one other = record {
 abbrev Part : (invs : List Inv) (given : Given) (A : Type 0) → (A → Bool) → (A → Reads) → Type 0
 Part invs given A modal reads = (part : A) × Fitting invs given (modal part) (reads part)
 
-each_grows : (invs : List Inv) (given : Given) {A : Type 0} (modal : A → Bool) (reads : A → Reads) (parts : List (Part invs given A modal reads)) (setting : Setting) (walk : Walk)
-    → (each (map reads (map (λ part. part.0) parts)) setting walk).walk.faults ≡ [] → walk.faults ≡ []
-each_grows invs given modal reads [] setting walk none = none
-each_grows invs given modal reads (part ∷ parts) setting walk none = part.1.grows setting walk (each_grows invs given modal reads parts setting _ none)
+each_grows : (invs : List Inv) (given : Given) {A : Type 0} (modal : A → Bool) (reads : A → Reads) (parts : List (Part invs given A modal reads)) (setting : Setting) (resolver : Resolver)
+    → (each (map reads (map (λ part. part.0) parts)) setting resolver).resolver.faults ≡ [] → resolver.faults ≡ []
+each_grows invs given modal reads [] setting resolver none = none
+each_grows invs given modal reads (part ∷ parts) setting resolver none = part.1.grows setting resolver (each_grows invs given modal reads parts setting _ none)
 
-each_fits : (invs : List Inv) (given : Given) → HasInvariants invs given → {A : Type 0} (modal : A → Bool) (reads : A → Reads) (parts : List (Part invs given A modal reads)) (setting : Setting) (walk : Walk) (flag : Bool)
+each_fits : (invs : List Inv) (given : Given) → HasInvariants invs given → {A : Type 0} (modal : A → Bool) (reads : A → Reads) (parts : List (Part invs given A modal reads)) (setting : Setting) (resolver : Resolver) (flag : Bool)
     → (list_any (λ m. m) (map modal (map (λ part. part.0) parts)) ≡ true → setting.modal ≡ flag)
-    → (each (map reads (map (λ part. part.0) parts)) setting walk).walk.faults ≡ []
-    → list_all (λ (a : Asrt). asrt_fits invs a flag) (each (map reads (map (λ part. part.0) parts)) setting walk).made ≡ true
-each_fits invs given has modal reads [] setting walk flag may none = refl
-each_fits invs given has modal reads (part ∷ parts) setting walk flag may none =
+    → (each (map reads (map (λ part. part.0) parts)) setting resolver).resolver.faults ≡ []
+    → list_all (λ (a : Asrt). asrt_fits invs a flag) (each (map reads (map (λ part. part.0) parts)) setting resolver).made ≡ true
+each_fits invs given has modal reads [] setting resolver flag may none = refl
+each_fits invs given has modal reads (part ∷ parts) setting resolver flag may none =
     and_from _ _
-    (part.1.fits has setting walk flag (λ is. may (or_left (modal part.0) _ is)) (each_grows invs given modal reads parts setting _ none))
+    (part.1.fits has setting resolver flag (λ is. may (or_left (modal part.0) _ is)) (each_grows invs given modal reads parts setting _ none))
     (each_fits invs given has modal reads parts setting _ flag (λ is. may (or_right (modal part.0) _ is)) none)
 
 both_fits : (invs : List Inv) (first : Asrt) (more : List Asrt) (flag : Bool) → asrt_fits invs first flag ≡ true
@@ -215,18 +215,18 @@ atom_reads given x = atom_step given (map-Atom Atom Assertion Conjunct Reads Rea
 
 modality_fits : (invs : List Inv) (given : Given) (modal : Bool) (reads : Reads) (word : Span) (make : Asrt → Asrt)
     → ((a : Asrt) (flag : Bool) → (flag && asrt_fits invs a false) ≡ true → asrt_fits invs (make a) flag ≡ true) → Fitting invs given modal reads
-    → Fitting invs given true (λ setting walk. let read = apart reads (unmodal setting) (modality word setting walk) in record { made = make read.made; walk = read.walk })
+    → Fitting invs given true (λ setting resolver. let read = apart reads (unmodal setting) (modality word setting resolver) in record { made = make read.made; resolver = read.resolver })
 modality_fits invs given modal reads word make holds inside = record {
-  grows = λ setting walk none. noted_grows walk.faults _ (inside.grows (unmodal setting) _ none);
-  fits = λ has setting walk flag may none.
-      let keeps = noted_keeps (occurrence.Modality word setting.modal) walk.faults (inside.grows (unmodal setting) _ none) in
+  grows = λ setting resolver none. noted_grows resolver.faults _ (inside.grows (unmodal setting) _ none);
+  fits = λ has setting resolver flag may none.
+      let keeps = noted_keeps (occurrence.Modality word setting.modal) resolver.faults (inside.grows (unmodal setting) _ none) in
       let allowed : setting.modal ≡ true = not-false setting.modal keeps.unmodal in
       holds _ flag (and_from flag _ (sym (may refl) ∙ allowed) (inside.fits has (unmodal setting) _ false (λ is. refl) none));
 }
 
 atom_layer_fits : (invs : List Inv) (given : Given) (y : AtomParts invs given)
     → Fitting invs given (atom_modal (bare_atom invs given y)) (atom_reads given (bare_atom invs given y))
-atom_layer_fits invs given (Atom-F.Empty word) = plain invs given _ (λ setting walk none. none) (λ setting walk flag. layer_fits invs _ Asrt-F.Emp flag rolls-Emp refl)
+atom_layer_fits invs given (Atom-F.Empty word) = plain invs given _ (λ setting resolver none. none) (λ setting resolver flag. layer_fits invs _ Asrt-F.Emp flag rolls-Emp refl)
 atom_layer_fits invs given (Atom-F.Choice word start condition end first_start first first_end otherwise second_start second second_end) =
     choice_fits invs given condition _ _ _ _ first.1 second.1
 atom_layer_fits invs given (Atom-F.Up word start inside end) =
@@ -234,39 +234,39 @@ atom_layer_fits invs given (Atom-F.Up word start inside end) =
 atom_layer_fits invs given (Atom-F.Down word start inside end) =
     modality_fits invs given _ _ word asrt.Down (λ a flag fit. layer_fits invs _ (Asrt-F.Down a) flag (rolls-Down a) fit) inside.1
 atom_layer_fits invs given (Atom-F.Init word start location end) =
-    plain invs given _ (λ setting walk none. number_grows (sight given setting.in_ensures walk) location walk.faults none) (λ setting walk flag. layer_fits invs _ (Asrt-F.Init _) flag (rolls-Init _) refl)
+    plain invs given _ (λ setting resolver none. number_grows (sight given setting.in_ensures resolver) location resolver.faults none) (λ setting resolver flag. layer_fits invs _ (Asrt-F.Init _) flag (rolls-Init _) refl)
 atom_layer_fits invs given (Atom-F.Rel word start location comma invariant end) = record {
-  grows = λ setting walk none. permission_grows (sight given setting.in_ensures walk) given.invariants location invariant walk.faults none;
-  fits = λ has setting walk flag may none.
+  grows = λ setting resolver none. permission_grows (sight given setting.in_ensures resolver) given.invariants location invariant resolver.faults none;
+  fits = λ has setting resolver flag may none.
       layer_fits invs _ (Asrt-F.Rel _ _) flag (rolls-Rel _ _)
-      (permission_fits invs given (sight given setting.in_ensures walk) walk.names location invariant walk.faults has none refl);
+      (permission_fits invs given (sight given setting.in_ensures resolver) resolver.names location invariant resolver.faults has none refl);
 }
 atom_layer_fits invs given (Atom-F.RmwAcq word start location comma invariant end) = record {
-  grows = λ setting walk none. permission_grows (sight given setting.in_ensures walk) given.invariants location invariant walk.faults none;
-  fits = λ has setting walk flag may none.
+  grows = λ setting resolver none. permission_grows (sight given setting.in_ensures resolver) given.invariants location invariant resolver.faults none;
+  fits = λ has setting resolver flag may none.
       layer_fits invs _ (Asrt-F.RmwAcq _ _) flag (rolls-RmwAcq _ _)
-      (permission_fits invs given (sight given setting.in_ensures walk) walk.names location invariant walk.faults has none refl);
+      (permission_fits invs given (sight given setting.in_ensures resolver) resolver.names location invariant resolver.faults has none refl);
 }
 atom_layer_fits invs given (Atom-F.Acq word start location use_comma invariant part_comma part value set_comma set_start excluded set_end end) = record {
-  grows = λ setting walk none.
-      let seen = sight given setting.in_ensures walk in
-      permission_grows seen given.invariants location invariant walk.faults
-      (noted_grows _ _ (acquire_numbered seen given.invariants location invariant part value excluded walk.faults none));
-  fits = λ has setting walk flag may none.
-      let seen = sight given setting.in_ensures walk in
-      let numbered = acquire_numbered seen given.invariants location invariant part value excluded walk.faults none in
+  grows = λ setting resolver none.
+      let seen = sight given setting.in_ensures resolver in
+      permission_grows seen given.invariants location invariant resolver.faults
+      (noted_grows _ _ (acquire_numbered seen given.invariants location invariant part value excluded resolver.faults none));
+  fits = λ has setting resolver flag may none.
+      let seen = sight given setting.in_ensures resolver in
+      let numbered = acquire_numbered seen given.invariants location invariant part value excluded resolver.faults none in
       let permitted = noted_grows _ _ numbered in
       layer_fits invs _ (Asrt-F.Acq _ _ _ _) flag (rolls-Acq _ _ _ _)
-      (and_from _ _ (permission_fits invs given seen walk.names location invariant walk.faults has permitted refl)
+      (and_from _ _ (permission_fits invs given seen resolver.names location invariant resolver.faults has permitted refl)
       (part_found invs part value (signature_at given.bytes given.invariants invariant.name) invariant.name invariant.arguments
       (λ s is. has (text_at given.bytes invariant.name) s is)
       (use_keeps seen (signature_at given.bytes given.invariants invariant.name) invariant _ permitted) (noted_keeps _ _ numbered)));
 }
 atom_layer_fits invs given (Atom-F.Bank word start bank comma amount end) =
-    plain invs given _ (λ setting walk none. noted_grows walk.faults _ (number_grows (sight given setting.in_ensures walk) amount _ none))
-    (λ setting walk flag. tokens_fit invs given walk word bank amount flag)
+    plain invs given _ (λ setting resolver none. noted_grows resolver.faults _ (number_grows (sight given setting.in_ensures resolver) amount _ none))
+    (λ setting resolver flag. tokens_fit invs given resolver word bank amount flag)
 atom_layer_fits invs given (Atom-F.Related left how) = relation_fits invs given left how
-atom_layer_fits invs given (Atom-F.Predicate predicate) = plain invs given _ (λ setting walk none. none) (λ setting walk flag. layer_fits invs _ Asrt-F.Emp flag rolls-Emp refl)
+atom_layer_fits invs given (Atom-F.Predicate predicate) = plain invs given _ (λ setting resolver none. none) (λ setting resolver flag. layer_fits invs _ Asrt-F.Emp flag rolls-Emp refl)
 
 atom_rolled : (invs : List Inv) (given : Given) (x : Atom-F Atom Assertion Conjunct) (y : AtomParts invs given) → bare_atom invs given y ≡ x
     → Fitting invs given (is_modal_atom (roll-Atom x)) (atom given (roll-Atom x))
@@ -292,10 +292,10 @@ assertion_reads given x = assertion_step (map-Assertion Atom Assertion Conjunct 
 assertion_layer_fits : (invs : List Inv) (given : Given) (y : AssertionParts invs given)
     → Fitting invs given (assertion_modal (bare_assertion invs given y)) (assertion_reads given (bare_assertion invs given y))
 assertion_layer_fits invs given y = record {
-  grows = λ setting walk none. y.first.1.grows setting walk (each_grows invs given is_modal_conjunct (conjunct given) y.more setting _ none);
-  fits = λ has setting walk flag may none.
+  grows = λ setting resolver none. y.first.1.grows setting resolver (each_grows invs given is_modal_conjunct (conjunct given) y.more setting _ none);
+  fits = λ has setting resolver flag may none.
       both_fits invs _ _ flag
-      (y.first.1.fits has setting walk flag (λ is. may (or_left (is_modal_atom y.first.0) _ is)) (each_grows invs given is_modal_conjunct (conjunct given) y.more setting _ none))
+      (y.first.1.fits has setting resolver flag (λ is. may (or_left (is_modal_atom y.first.0) _ is)) (each_grows invs given is_modal_conjunct (conjunct given) y.more setting _ none))
       (each_fits invs given has is_modal_conjunct (conjunct given) y.more setting _ flag (λ is. may (or_right (is_modal_atom y.first.0) _ is)) none);
 }
 
@@ -331,5 +331,5 @@ assertion_fits invs given = ind-Assertion
     (atom_rolled invs given) (assertion_rolled invs given) (conjunct_rolled invs given)
 
 pub clause_fits : (invs : List Inv) (given : Given) (c : Option Clause) → Fitting invs given (has_modality c) (clause given c)
-clause_fits invs given None = plain invs given _ (λ setting walk none. none) (λ setting walk flag. layer_fits invs _ Asrt-F.Emp flag rolls-Emp refl)
+clause_fits invs given None = plain invs given _ (λ setting resolver none. none) (λ setting resolver flag. layer_fits invs _ Asrt-F.Emp flag rolls-Emp refl)
 clause_fits invs given (Some c) = assertion_fits invs given c.assertion

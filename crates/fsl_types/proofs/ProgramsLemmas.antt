@@ -19,29 +19,29 @@ use Rattle.fsl_types.specs.declared.fault.Fault.{Fault}
 use Rattle.fsl_types.specs.declared.occurrence.Occurrence.TheVariants as occurrence
 use Rattle.fsl_types.specs.declared.resolved.Resolved.{Resolved}
 use Rattle.fsl_types.specs.declared.variable.Signature.{Signature}
-use Rattle.fsl_types.specs.declared.walk.Walk.{Walk}
+use Rattle.fsl_types.specs.declared.resolver.Resolver.{Resolver}
 use Rattle.fsl_types.specs.Given.{Given}
 use Rattle.fsl_types.specs.Names.{found}
 use Rattle.fsl_types.specs.Programs.{all_listed, declaration, declare_each, end_of, faults_of, given_by, has_main, in_ensures, in_invariant, in_requires, invariant, invariants_of, is_bare, listed_procedure, nothing_listed, nothing_resolved, parts, procedure, program_of, resolved}
-use Rattle.fsl_types.specs.Walks.{one_more}
-use Rattle.fsl_types.proofs.FittingAssertions.{HasInvariants, assertion_fits, clause_fits}
-use Rattle.fsl_types.proofs.FittingStatements.{HasProcedures, IsProcedure, block_fits}
-use Rattle.fsl_types.proofs.Growing.{noted_grows, noted_keeps}
-use Rattle.fsl_types.proofs.GrowingDeclarations.{contract_known, declare_each_grows, list_each_grows, listed_procedure_grows, parts_grow, pre_known}
-use Rattle.fsl_types.proofs.NamedDeclarations.{invariants_stand, procedures_stand}
+use Rattle.fsl_types.specs.Resolvers.{one_more}
+use Rattle.fsl_types.proofs.AssertionsLemmas.{HasInvariants, assertion_fits, clause_fits}
+use Rattle.fsl_types.proofs.StatementsLemmas.{HasProcedures, IsProcedure, block_fits}
+use Rattle.fsl_types.proofs.ExpressionsLemmas.{noted_grows, noted_keeps}
+use Rattle.fsl_types.proofs.DeclarationsLemmas.{contract_known, declare_each_grows, list_each_grows, listed_procedure_grows, parts_grow, pre_known}
+use Rattle.fsl_types.proofs.ListingLemmas.{invariants_stand, procedures_stand}
 
 -- ---- invariants and procedures
 
-parts_fit : (p : Program) (given : Given) → HasInvariants p.invs given → (before : ℕ) (ps : List Part) (walk : Walk) → (parts given before ps walk).walk.faults ≡ []
-    → list_all (λ (a : Asrt). asrt_fits p.invs a false) (parts given before ps walk).made ≡ true
-parts_fit p given invs before [] walk none = refl
-parts_fit p given invs before (q ∷ qs) walk none =
+parts_fit : (p : Program) (given : Given) → HasInvariants p.invs given → (before : ℕ) (ps : List Part) (resolver : Resolver) → (parts given before ps resolver).resolver.faults ≡ []
+    → list_all (λ (a : Asrt). asrt_fits p.invs a false) (parts given before ps resolver).made ≡ true
+parts_fit p given invs before [] resolver none = refl
+parts_fit p given invs before (q ∷ qs) resolver none =
     and_from _ _
     ((assertion_fits p.invs given q.assertion).fits invs in_invariant _ false (λ is. refl) (parts_grow p given (one_more 8 before) qs _ none))
     (parts_fit p given invs (one_more 8 before) qs _ none)
 
 procedure_fits : (p : Program) (given : Given) → HasInvariants p.invs given → HasProcedures p given → (q : Procedure) (faults : List Fault)
-    → (procedure given q faults).walk.faults ≡ [] → proc_fits p (procedure given q faults).made ≡ true
+    → (procedure given q faults).resolver.faults ≡ [] → proc_fits p (procedure given q faults).made ≡ true
 procedure_fits p given invs procs q faults none =
     and_from _ _ ((clause_fits p.invs given q.requires_clause).fits invs in_requires _ true (λ is. refl) (pre_known p given q faults none))
     (and_from _ _ ((clause_fits p.invs given q.ensures_clause).fits invs in_ensures _ true (λ is. refl) (contract_known p given q faults none))

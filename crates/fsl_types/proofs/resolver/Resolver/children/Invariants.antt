@@ -2,7 +2,7 @@ use Rattle.std.proofs.Common.{◌≡◌, ◌++◌, map, drop}
 use Rattle.fsl_types.specs.Expressions.{in_turn}
 use Rattle.fsl_types.specs.Given.{given_of}
 use Rattle.fsl_types.specs.Statements.{called, judged_call, seen}
-use Rattle.fsl_types.proofs.walk.Walk.children.Given as goal
+use Rattle.fsl_types.proofs.resolver.Resolver.children.Given as goal
 
 abbrev pub invariant-loop-tree : goal.invariant-loop-tree
 invariant-loop-tree l = record {

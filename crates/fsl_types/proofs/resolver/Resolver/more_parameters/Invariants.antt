@@ -1,6 +1,6 @@
 use Rattle.std.proofs.Common.{◌≡◌, map, drop}
 use Rattle.fsl_types.specs.Programs.{next_parameter, with_parameters}
-use Rattle.fsl_types.proofs.walk.Walk.more_parameters.Given as goal
+use Rattle.fsl_types.proofs.resolver.Resolver.more_parameters.Given as goal
 
 abbrev pub invariant-loop-tree : goal.invariant-loop-tree
 invariant-loop-tree l =

@@ -1,6 +1,7 @@
-//! What is known while a tree is read, and how a name is declared and a fault is noted.
+//! The resolver: what is known while a tree is read, and how a name is declared and a fault is noted. It is defined
+//! in `specs/Resolvers.antt`.
 ghost use Rattle.std.specs.Prelude.{◌≡◌, OnOk, IfOk, length};
-ghost use Rattle.fsl_types.specs.Walks.{declared, fresh, judging, leaving, noted, one_more};
+ghost use Rattle.fsl_types.specs.Resolvers.{declared, fresh, judging, leaving, noted, one_more};
 
 use crate::fault::Fault;
 use crate::names::text_at;
@@ -14,8 +15,9 @@ use std::alloc::{AllocError, Global};
 /// The names that are visible, in the order of their declarations, the number of slots that are taken, those of
 /// banks, and the faults so far.
 #[derive(Drop)]
-pub struct Walk<'a> {
+pub struct Resolver<'a> {
     pub names: Table<'a, Variable>,
+    /// At most 256.
     pub slots: u32,
     pub banks: List<u32>,
     pub faults: List<Fault>,
@@ -28,12 +30,12 @@ pub fn one_more(n: u32, limit: u32) -> u32
     if n < limit { n + 1 } else { limit }
 }
 
-impl<'a> Walk<'a> {
+impl<'a> Resolver<'a> {
     /// Where nothing is declared.
-    pub fn fresh(alloc: Global, faults: List<Fault>) -> Walk<'a>
+    pub fn fresh(alloc: Global, faults: List<Fault>) -> Resolver<'a>
         ensures { result ≡ fresh faults }
     {
-        Walk {
+        Resolver {
             names: Table::new(alloc),
             slots: 0,
             banks: List::new(alloc),

@@ -23,16 +23,16 @@ use Rattle.fsl_types.specs.declared.occurrence.Occurrence.TheVariants as occurre
 use Rattle.fsl_types.specs.declared.resolved.Resolved.{Resolved}
 use Rattle.fsl_types.specs.declared.variable.Signature.{Signature}
 use Rattle.fsl_types.specs.declared.variable.Sort.TheVariants as sorts
-use Rattle.fsl_types.specs.declared.walk.Walk.{Walk}
+use Rattle.fsl_types.specs.declared.resolver.Resolver.{Resolver}
 use Rattle.fsl_types.specs.Assertions.{clause, has_modality}
 use Rattle.fsl_types.specs.Given.{Given}
 use Rattle.fsl_types.specs.Names.{Signatures, found, text_at, with_name}
 use Rattle.fsl_types.specs.Programs.{banks_among, declaration, declare_each, in_ensures, in_requires, invariant, invariant_signature, list_each, listed_invariant, listed_procedure, procedure, procedure_signature}
-use Rattle.fsl_types.specs.Walks.{declared}
-use Rattle.fsl_types.proofs.FittingAssertions.{HasInvariants, IsInvariant, clause_fits}
-use Rattle.fsl_types.proofs.FittingStatements.{IsProcedure}
-use Rattle.fsl_types.proofs.Growing.{noted_keeps}
-use Rattle.fsl_types.proofs.GrowingDeclarations.{contract_known, declare_each_grows, invariant_known, known, known_slots, list_each_grows, listed_invariant_grows, listed_procedure_grows, next_number, parts_long, pre_known, procedure_known}
+use Rattle.fsl_types.specs.Resolvers.{declared}
+use Rattle.fsl_types.proofs.AssertionsLemmas.{HasInvariants, IsInvariant, clause_fits}
+use Rattle.fsl_types.proofs.StatementsLemmas.{IsProcedure}
+use Rattle.fsl_types.proofs.ExpressionsLemmas.{noted_keeps}
+use Rattle.fsl_types.proofs.DeclarationsLemmas.{contract_known, declare_each_grows, invariant_known, known, known_slots, list_each_grows, listed_invariant_grows, listed_procedure_grows, next_number, parts_long, pre_known, procedure_known}
 
 -- ---- names and places
 
@@ -85,7 +85,7 @@ invariant_before : (invs : List Inv) (inv : Inv) (s : Signature) → IsInvariant
 invariant_before invs inv s is = record { inv = is.inv; at = stands_before invs (inv ∷ []) s.number is.inv is.at; params = is.params; parts = is.parts }
 
 invariant_made : (p : Program) (given : Given) (i : Invariant) (faults : List Fault) (invs : List Inv) (count : ℕ) → count ≡ length invs
-    → (invariant given i faults).walk.faults ≡ [] → IsInvariant (invs ++ (invariant given i faults).made ∷ []) (invariant_signature count i)
+    → (invariant given i faults).resolver.faults ≡ [] → IsInvariant (invs ++ (invariant given i faults).made ∷ []) (invariant_signature count i)
 invariant_made p given i faults invs count many none = record {
   inv = (invariant given i faults).made;
   at = ap (slice_get (invs ++ (invariant given i faults).made ∷ [])) many ∙ stands_last invs (invariant given i faults).made;
@@ -139,14 +139,14 @@ absent : {X : Type 0} (o : Option X) → is_none o ≡ true → o ≡ None
 absent None is = refl
 absent (Some x) is = absurd (true≢false (sym is))
 
-no_clause : (given : Given) (c : Option Clause) (walk : Walk) → is_none c ≡ true → is_emp (clause given c in_requires walk).made ≡ true
-no_clause given None walk is = ap is_emp (sym rolls-Emp) ∙ fold-roll-Asrt Bool emp_step Asrt-F.Emp
-no_clause given (Some c) walk is = absurd (true≢false (sym is))
+no_clause : (given : Given) (c : Option Clause) (resolver : Resolver) → is_none c ≡ true → is_emp (clause given c in_requires resolver).made ≡ true
+no_clause given None resolver is = ap is_emp (sym rolls-Emp) ∙ fold-roll-Asrt Bool emp_step Asrt-F.Emp
+no_clause given (Some c) resolver is = absurd (true≢false (sym is))
 
 no_modality : (modal may flag : Bool) → modal ≡ false → modal ≡ true → may ≡ flag
 no_modality modal may flag none is = absurd (true≢false (sym is ∙ none))
 
-contract_plain : (p : Program) (given : Given) (q : Procedure) (faults : List Fault) → HasInvariants p.invs given → (procedure given q faults).walk.faults ≡ []
+contract_plain : (p : Program) (given : Given) (q : Procedure) (faults : List Fault) → HasInvariants p.invs given → (procedure given q faults).resolver.faults ≡ []
     → (has_modality q.requires_clause || has_modality q.ensures_clause) ≡ false
     → (asrt_fits p.invs (procedure given q faults).made.pre false && asrt_fits p.invs (procedure given q faults).made.post false) ≡ true
 contract_plain p given q faults invs none plain =
@@ -155,7 +155,7 @@ contract_plain p given q faults invs none plain =
     ((clause_fits p.invs given q.requires_clause).fits invs in_requires _ false (no_modality _ _ _ neither.0) (pre_known p given q faults none))
     ((clause_fits p.invs given q.ensures_clause).fits invs in_ensures _ false (no_modality _ _ _ neither.1) (contract_known p given q faults none))
 
-procedure_bare : (p : Program) (given : Given) (q : Procedure) (faults : List Fault) → (procedure given q faults).walk.faults ≡ []
+procedure_bare : (p : Program) (given : Given) (q : Procedure) (faults : List Fault) → (procedure given q faults).resolver.faults ≡ []
     → (is_none q.parameters && is_none q.requires_clause) ≡ true
     → ((procedure given q faults).made.params == 0 && is_emp (procedure given q faults).made.pre) ≡ true
 procedure_bare p given q faults none bare =
@@ -164,7 +164,7 @@ procedure_bare p given q faults none bare =
     and_from _ _ (eq-eqb _ 0 (known_slots given q.parameters faults (procedure_known p given q faults none) ∙ few)) (no_clause given q.requires_clause _ both.1)
 
 procedure_made : (p : Program) (given : Given) (q : Procedure) (faults : List Fault) (procs : List Proc) (count : ℕ) (name : List ℕ) → HasInvariants p.invs given
-    → count ≡ length procs → (procedure given q faults).walk.faults ≡ [] → bytes_eq name (text_at given.bytes q.name) ≡ true
+    → count ≡ length procs → (procedure given q faults).resolver.faults ≡ [] → bytes_eq name (text_at given.bytes q.name) ≡ true
     → IsProcedure p (procs ++ (procedure given q faults).made ∷ []) name (procedure_signature count q)
 procedure_made p given q faults procs count name invs many none same = record {
   proc = (procedure given q faults).made;

@@ -16,21 +16,21 @@ use Rattle.fsl_types.specs.declared.listing.Listing.{Listing}
 use Rattle.fsl_types.specs.declared.occurrence.Occurrence.TheVariants as occurrence
 use Rattle.fsl_types.specs.declared.resolved.Resolved.{Resolved}
 use Rattle.fsl_types.specs.declared.variable.Sort.TheVariants as sorts
-use Rattle.fsl_types.specs.declared.walk.Walk.{Walk}
+use Rattle.fsl_types.specs.declared.resolver.Resolver.{Resolver}
 use Rattle.fsl_types.specs.Assertions.{clause}
 use Rattle.fsl_types.specs.Given.{Given}
 use Rattle.fsl_types.specs.Names.{found, text_at}
 use Rattle.fsl_types.specs.Programs.{banks_among, contract, declaration, declare_each, in_ensures, in_invariant, in_requires, invariant, is_bank, list_each, listed_invariant, listed_procedure, parameters_of, parts, procedure, with_parameter, with_parameters}
-use Rattle.fsl_types.specs.Walks.{declared, fresh, one_more}
-use Rattle.fsl_types.proofs.FittingAssertions.{assertion_fits, clause_fits}
-use Rattle.fsl_types.proofs.FittingStatements.{block_fits}
-use Rattle.fsl_types.proofs.Growing.{noted_grows, noted_keeps}
+use Rattle.fsl_types.specs.Resolvers.{declared, fresh, one_more}
+use Rattle.fsl_types.proofs.AssertionsLemmas.{assertion_fits, clause_fits}
+use Rattle.fsl_types.proofs.StatementsLemmas.{block_fits}
+use Rattle.fsl_types.proofs.ExpressionsLemmas.{noted_grows, noted_keeps}
 
 -- ---- parameters
 
-parameters_grow : (bytes : List ℕ) (ps : List Parameter) (walk : Walk) → (with_parameters bytes ps walk).faults ≡ [] → walk.faults ≡ []
-parameters_grow bytes [] walk none = none
-parameters_grow bytes (p ∷ ps) walk none = noted_grows walk.faults _ (parameters_grow bytes ps (with_parameter bytes p walk) none)
+parameters_grow : (bytes : List ℕ) (ps : List Parameter) (resolver : Resolver) → (with_parameters bytes ps resolver).faults ≡ [] → resolver.faults ≡ []
+parameters_grow bytes [] resolver none = none
+parameters_grow bytes (p ∷ ps) resolver none = noted_grows resolver.faults _ (parameters_grow bytes ps (with_parameter bytes p resolver) none)
 
 -- below its limit a count isn't cut off
 pub next_number : (limit most n : ℕ) → nat_le limit n ≡ false → limit < most + 1 → one_more most n ≡ n + 1
@@ -39,15 +39,15 @@ next_number limit most n below within = let small : n < limit = leb-false limit 
 counted_next : (before one many n : ℕ) → many ≡ one + n → one ≡ before + 1 → many ≡ before + suc n
 counted_next before one many n all first = omega (arith, all, first)
 
-counted : (bytes : List ℕ) (ps : List Parameter) (walk : Walk) → (with_parameters bytes ps walk).faults ≡ [] → (with_parameters bytes ps walk).slots ≡ walk.slots + length ps
-counted bytes [] walk none = omega arith
-counted bytes (p ∷ ps) walk none =
-    let keeps = noted_keeps (occurrence.Declared p.name (is_some (found (text_at bytes p.name) walk.names)) walk.slots 16) walk.faults (parameters_grow bytes ps (with_parameter bytes p walk) none) in
-    counted_next walk.slots (with_parameter bytes p walk).slots _ (length ps) (counted bytes ps (with_parameter bytes p walk) none)
-    (next_number 16 256 walk.slots keeps.counted (omega arith))
+counted : (bytes : List ℕ) (ps : List Parameter) (resolver : Resolver) → (with_parameters bytes ps resolver).faults ≡ [] → (with_parameters bytes ps resolver).slots ≡ resolver.slots + length ps
+counted bytes [] resolver none = omega arith
+counted bytes (p ∷ ps) resolver none =
+    let keeps = noted_keeps (occurrence.Declared p.name (is_some (found (text_at bytes p.name) resolver.names)) resolver.slots 16) resolver.faults (parameters_grow bytes ps (with_parameter bytes p resolver) none) in
+    counted_next resolver.slots (with_parameter bytes p resolver).slots _ (length ps) (counted bytes ps (with_parameter bytes p resolver) none)
+    (next_number 16 256 resolver.slots keeps.counted (omega arith))
 
 -- what is known behind parameters
-abbrev pub known : Given → Option Parameters → List Fault → Walk
+abbrev pub known : Given → Option Parameters → List Fault → Resolver
 known given ps faults = with_parameters given.bytes (parameters_of ps) (fresh faults)
 
 pub known_slots : (given : Given) (ps : Option Parameters) (faults : List Fault) → (known given ps faults).faults ≡ [] → (known given ps faults).slots ≡ length (banks_among ps)
@@ -58,32 +58,32 @@ known_slots given ps faults none =
 
 -- ---- parts and contracts
 
-pub parts_grow : (p : Program) (given : Given) (before : ℕ) (ps : List Part) (walk : Walk) → (parts given before ps walk).walk.faults ≡ [] → walk.faults ≡ []
-parts_grow p given before [] walk none = none
-parts_grow p given before (q ∷ qs) walk none =
-    noted_grows walk.faults _ ((assertion_fits p.invs given q.assertion).grows in_invariant _ (parts_grow p given (one_more 8 before) qs _ none))
+pub parts_grow : (p : Program) (given : Given) (before : ℕ) (ps : List Part) (resolver : Resolver) → (parts given before ps resolver).resolver.faults ≡ [] → resolver.faults ≡ []
+parts_grow p given before [] resolver none = none
+parts_grow p given before (q ∷ qs) resolver none =
+    noted_grows resolver.faults _ ((assertion_fits p.invs given q.assertion).grows in_invariant _ (parts_grow p given (one_more 8 before) qs _ none))
 
-pub parts_long : (given : Given) (before : ℕ) (ps : List Part) (walk : Walk) → length (parts given before ps walk).made ≡ length ps
-parts_long given before [] walk = refl
-parts_long given before (q ∷ qs) walk = ap suc (parts_long given (one_more 8 before) qs _)
+pub parts_long : (given : Given) (before : ℕ) (ps : List Part) (resolver : Resolver) → length (parts given before ps resolver).made ≡ length ps
+parts_long given before [] resolver = refl
+parts_long given before (q ∷ qs) resolver = ap suc (parts_long given (one_more 8 before) qs _)
 
-pub value_known : (p : Program) (given : Given) (i : Invariant) (faults : List Fault) → (invariant given i faults).walk.faults ≡ []
+pub value_known : (p : Program) (given : Given) (i : Invariant) (faults : List Fault) → (invariant given i faults).resolver.faults ≡ []
     → (declared 256 given.bytes i.value sorts.Local (known given i.parameters faults)).faults ≡ []
 value_known p given i faults none = parts_grow p given 0 (i.first ∷ i.more) _ none
 
-pub invariant_known : (p : Program) (given : Given) (i : Invariant) (faults : List Fault) → (invariant given i faults).walk.faults ≡ []
+pub invariant_known : (p : Program) (given : Given) (i : Invariant) (faults : List Fault) → (invariant given i faults).resolver.faults ≡ []
     → (known given i.parameters faults).faults ≡ []
 invariant_known p given i faults none = noted_grows _ _ (value_known p given i faults none)
 
-pub contract_known : (p : Program) (given : Given) (q : Procedure) (faults : List Fault) → (procedure given q faults).walk.faults ≡ []
-    → (contract given q (known given q.parameters faults)).walk.faults ≡ []
+pub contract_known : (p : Program) (given : Given) (q : Procedure) (faults : List Fault) → (procedure given q faults).resolver.faults ≡ []
+    → (contract given q (known given q.parameters faults)).resolver.faults ≡ []
 contract_known p given q faults none = (block_fits p given q.body).grows false _ none
 
-pub pre_known : (p : Program) (given : Given) (q : Procedure) (faults : List Fault) → (procedure given q faults).walk.faults ≡ []
-    → (clause given q.requires_clause in_requires (known given q.parameters faults)).walk.faults ≡ []
+pub pre_known : (p : Program) (given : Given) (q : Procedure) (faults : List Fault) → (procedure given q faults).resolver.faults ≡ []
+    → (clause given q.requires_clause in_requires (known given q.parameters faults)).resolver.faults ≡ []
 pre_known p given q faults none = (clause_fits p.invs given q.ensures_clause).grows in_ensures _ (contract_known p given q faults none)
 
-pub procedure_known : (p : Program) (given : Given) (q : Procedure) (faults : List Fault) → (procedure given q faults).walk.faults ≡ []
+pub procedure_known : (p : Program) (given : Given) (q : Procedure) (faults : List Fault) → (procedure given q faults).resolver.faults ≡ []
     → (known given q.parameters faults).faults ≡ []
 procedure_known p given q faults none = (clause_fits p.invs given q.requires_clause).grows in_requires _ (pre_known p given q faults none)
 

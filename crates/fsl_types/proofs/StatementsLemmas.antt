@@ -48,14 +48,14 @@ use Rattle.fsl_types.specs.declared.occurrence.Access.{Access}
 use Rattle.fsl_types.specs.declared.occurrence.Access.TheVariants as accesses
 use Rattle.fsl_types.specs.declared.occurrence.Occurrence.TheVariants as occurrence
 use Rattle.fsl_types.specs.declared.variable.Signature.{Signature}
-use Rattle.fsl_types.specs.declared.walk.Walk.{Walk}
+use Rattle.fsl_types.specs.declared.resolver.Resolver.{Resolver}
 use Rattle.fsl_types.specs.Expressions.{Sight, arguments_of, fits, in_turn, judged_use, number_of, numbered_arguments, signature_at}
 use Rattle.fsl_types.specs.Faults.{has_mode}
 use Rattle.fsl_types.specs.Given.{Given}
 use Rattle.fsl_types.specs.Names.{Names, found, text_at}
 use Rattle.fsl_types.specs.Statements.{Inside, Runs, allocation_of, block, block_step, called, fence, in_fence, in_loop_invariant, is_modal, judged_allocation, judged_call, judged_mode, judged_return, judged_right_side, judged_step, judged_step_line, judged_steps, mode_of, otherwise, otherwise_step, release_mode, right_side_of, run_each, seen, statement, statement_step, updated}
-use Rattle.fsl_types.proofs.FittingAssertions.{HasInvariants, assertion_fits, clause_fits, equal_numbers, instance_fits, layer_fits}
-use Rattle.fsl_types.proofs.Growing.{Grows, Keeps, condition_grows, each_grows, noted_grows, noted_keeps, number_grows, use_grows, use_keeps}
+use Rattle.fsl_types.proofs.AssertionsLemmas.{HasInvariants, assertion_fits, clause_fits, equal_numbers, instance_fits, layer_fits}
+use Rattle.fsl_types.proofs.ExpressionsLemmas.{Grows, Keeps, condition_grows, each_grows, noted_grows, noted_keeps, number_grows, use_grows, use_keeps}
 
 -- ---- procedures by name
 
@@ -221,13 +221,13 @@ right_fits p given sight names slot (right_sides.Update word how start location 
 
 -- whatever a statement makes without faults fits
 record Running (p : Program) (given : Given) (runs : Runs) : Type 0 where
-  pub grows : (in_loop : Bool) (walk : Walk) → (runs in_loop walk).walk.faults ≡ [] → walk.faults ≡ []
-  pub fits : HasInvariants p.invs given → HasProcedures p given → (in_loop : Bool) (walk : Walk) → (runs in_loop walk).walk.faults ≡ [] → stmt_fits p (runs in_loop walk).made ≡ true
+  pub grows : (in_loop : Bool) (resolver : Resolver) → (runs in_loop resolver).resolver.faults ≡ [] → resolver.faults ≡ []
+  pub fits : HasInvariants p.invs given → HasProcedures p given → (in_loop : Bool) (resolver : Resolver) → (runs in_loop resolver).resolver.faults ≡ [] → stmt_fits p (runs in_loop resolver).made ≡ true
 
 -- likewise the statements of a block
 pub record RunningInside (p : Program) (given : Given) (inside : Inside) : Type 0 where
-  pub grows : (in_loop : Bool) (walk : Walk) → (inside.runs in_loop walk).walk.faults ≡ [] → walk.faults ≡ []
-  pub fits : HasInvariants p.invs given → HasProcedures p given → (in_loop : Bool) (walk : Walk) → (inside.runs in_loop walk).walk.faults ≡ [] → list_all (stmt_fits p) (inside.runs in_loop walk).made ≡ true
+  pub grows : (in_loop : Bool) (resolver : Resolver) → (inside.runs in_loop resolver).resolver.faults ≡ [] → resolver.faults ≡ []
+  pub fits : HasInvariants p.invs given → HasProcedures p given → (in_loop : Bool) (resolver : Resolver) → (inside.runs in_loop resolver).resolver.faults ≡ [] → list_all (stmt_fits p) (inside.runs in_loop resolver).made ≡ true
 
 abbrev RunningStatement : Program → Given → Type 0
 RunningStatement p given = (s : Statement) × Running p given (statement given s)
@@ -248,90 +248,90 @@ bare_statement p given y =
 abbrev statement_runs : Given → Statement-F Statement Block Otherwise → Runs
 statement_runs given x = statement_step given (map-Statement Statement Block Otherwise Runs Inside Inside (statement given) (block given) (otherwise given) x)
 
-fence_grows : (p : Program) (given : Given) (what : FenceKind) (walk : Walk) → (fence given what walk).walk.faults ≡ [] → walk.faults ≡ []
-fence_grows p given (fences.Acquire word) walk none = none
-fence_grows p given (fences.Release word start held end) walk none = (assertion_fits p.invs given held).grows in_fence walk none
+fence_grows : (p : Program) (given : Given) (what : FenceKind) (resolver : Resolver) → (fence given what resolver).resolver.faults ≡ [] → resolver.faults ≡ []
+fence_grows p given (fences.Acquire word) resolver none = none
+fence_grows p given (fences.Release word start held end) resolver none = (assertion_fits p.invs given held).grows in_fence resolver none
 
-fence_fits : (p : Program) (given : Given) (what : FenceKind) → HasInvariants p.invs given → (walk : Walk) → (fence given what walk).walk.faults ≡ []
-    → act_fits p (fence given what walk).made ≡ true
-fence_fits p given (fences.Acquire word) invs walk none =
+fence_fits : (p : Program) (given : Given) (what : FenceKind) → HasInvariants p.invs given → (resolver : Resolver) → (fence given what resolver).resolver.faults ≡ []
+    → act_fits p (fence given what resolver).made ≡ true
+fence_fits p given (fences.Acquire word) invs resolver none =
     act_layer_fits p _ (Act-F.Fence _ _) (rolls-Fence _ _) (layer_fits p.invs _ Asrt-F.Emp false rolls-Emp refl)
-fence_fits p given (fences.Release word start held end) invs walk none =
+fence_fits p given (fences.Release word start held end) invs resolver none =
     act_layer_fits p _ (Act-F.Fence _ _) (rolls-Fence _ _)
-    (and_from _ _ (fence_mode word) ((assertion_fits p.invs given held).fits invs in_fence walk false (λ is. refl) none))
+    (and_from _ _ (fence_mode word) ((assertion_fits p.invs given held).fits invs in_fence resolver false (λ is. refl) none))
 
 return_grows : (sight : Sight) (in_loop : Bool) (word : Span) (e : Option Expression) → Grows (judged_return sight in_loop word e)
 return_grows sight in_loop word None faults none = noted_grows faults _ none
 return_grows sight in_loop word (Some e) faults none = noted_grows faults _ (number_grows sight e _ none)
 
 -- a statement that uses nothing and holds no other
-plain : (p : Program) (given : Given) (runs : Runs) → ((in_loop : Bool) (walk : Walk) → (runs in_loop walk).walk.faults ≡ [] → walk.faults ≡ [])
-    → ((in_loop : Bool) (walk : Walk) → stmt_fits p (runs in_loop walk).made ≡ true) → Running p given runs
-plain p given runs grow fit = record { grows = grow; fits = λ invs procs in_loop walk none. fit in_loop walk }
+plain : (p : Program) (given : Given) (runs : Runs) → ((in_loop : Bool) (resolver : Resolver) → (runs in_loop resolver).resolver.faults ≡ [] → resolver.faults ≡ [])
+    → ((in_loop : Bool) (resolver : Resolver) → stmt_fits p (runs in_loop resolver).made ≡ true) → Running p given runs
+plain p given runs grow fit = record { grows = grow; fits = λ invs procs in_loop resolver none. fit in_loop resolver }
 
 statement_layer_fits : (p : Program) (given : Given) (y : StatementParts p given)
     → Running p given (statement_runs given (bare_statement p given y))
 unfolding folded_stmt
 statement_layer_fits p given (Statement-F.Let word name equals right semicolon) = record {
-  grows = λ in_loop walk none. right_grows given (seen given walk) right walk.faults (noted_grows _ _ none);
-  fits = λ invs procs in_loop walk none. right_fits p given (seen given walk) walk.names walk.slots right walk.faults invs procs (noted_grows _ _ none);
+  grows = λ in_loop resolver none. right_grows given (seen given resolver) right resolver.faults (noted_grows _ _ none);
+  fits = λ invs procs in_loop resolver none. right_fits p given (seen given resolver) resolver.names resolver.slots right resolver.faults invs procs (noted_grows _ _ none);
 }
 statement_layer_fits p given (Statement-F.Assign name equals right semicolon) = record {
-  grows = λ in_loop walk none. noted_grows walk.faults _ (right_grows given (seen given walk) right _ none);
-  fits = λ invs procs in_loop walk none. right_fits p given (seen given walk) walk.names _ right _ invs procs none;
+  grows = λ in_loop resolver none. noted_grows resolver.faults _ (right_grows given (seen given resolver) right _ none);
+  fits = λ invs procs in_loop resolver none. right_fits p given (seen given resolver) resolver.names _ right _ invs procs none;
 }
 statement_layer_fits p given (Statement-F.Store word how start location comma stored end semicolon) = record {
-  grows = λ in_loop walk none. noted_grows walk.faults _ (number_grows (seen given walk) location _ (number_grows (seen given walk) stored _ none));
-  fits = λ invs procs in_loop walk none.
+  grows = λ in_loop resolver none. noted_grows resolver.faults _ (number_grows (seen given resolver) location _ (number_grows (seen given resolver) stored _ none));
+  fits = λ invs procs in_loop resolver none.
       act_layer_fits p _ (Act-F.Store (mode_of how) _ _) (rolls-Store _ _ _)
-      (store_mode how (mode_keeps accesses.Store how walk.faults (number_grows (seen given walk) location _ (number_grows (seen given walk) stored _ none))));
+      (store_mode how (mode_keeps accesses.Store how resolver.faults (number_grows (seen given resolver) location _ (number_grows (seen given resolver) stored _ none))));
 }
 statement_layer_fits p given (Statement-F.Call word callee semicolon) = record {
-  grows = λ in_loop walk none. use_grows (seen given walk) (signature_at given.bytes given.procedures callee.name) callee walk.faults none;
-  fits = λ invs procs in_loop walk none.
-      act_layer_fits p _ (Act-F.Call None _ _) (rolls-Call _ _ _) (callee_fits p given (seen given walk) walk.names callee walk.faults procs none);
+  grows = λ in_loop resolver none. use_grows (seen given resolver) (signature_at given.bytes given.procedures callee.name) callee resolver.faults none;
+  fits = λ invs procs in_loop resolver none.
+      act_layer_fits p _ (Act-F.Call None _ _) (rolls-Call _ _ _) (callee_fits p given (seen given resolver) resolver.names callee resolver.faults procs none);
 }
 statement_layer_fits p given (Statement-F.Parallel word start calls end) = record {
-  grows = λ in_loop walk none.
-      noted_grows walk.faults _ (each_grows (judged_call given (seen given walk)) (call_grows given (seen given walk)) calls _ none);
-  fits = λ invs procs in_loop walk none.
-      act_layer_fits p _ (Act-F.Par _) (rolls-Par _) (children_fit p given (seen given walk) walk.names calls _ procs none);
+  grows = λ in_loop resolver none.
+      noted_grows resolver.faults _ (each_grows (judged_call given (seen given resolver)) (call_grows given (seen given resolver)) calls _ none);
+  fits = λ invs procs in_loop resolver none.
+      act_layer_fits p _ (Act-F.Par _) (rolls-Par _) (children_fit p given (seen given resolver) resolver.names calls _ procs none);
 }
 statement_layer_fits p given (Statement-F.Fence word what semicolon) = record {
-  grows = λ in_loop walk none. fence_grows p given what walk none;
-  fits = λ invs procs in_loop walk none. fence_fits p given what invs walk none;
+  grows = λ in_loop resolver none. fence_grows p given what resolver none;
+  fits = λ invs procs in_loop resolver none. fence_fits p given what invs resolver none;
 }
 statement_layer_fits p given (Statement-F.If word start condition end then_block None) = record {
-  grows = λ in_loop walk none. condition_grows (seen given walk) condition walk.faults (then_block.1.grows in_loop _ none);
-  fits = λ invs procs in_loop walk none.
+  grows = λ in_loop resolver none. condition_grows (seen given resolver) condition resolver.faults (then_block.1.grows in_loop _ none);
+  fits = λ invs procs in_loop resolver none.
       act_layer_fits p _ (Act-F.If _ _ _) (rolls-If _ _ _) (and_from _ _ (stmts_fit p _ (then_block.1.fits invs procs in_loop _ none)) refl);
 }
 statement_layer_fits p given (Statement-F.If word start condition end then_block (Some other)) = record {
-  grows = λ in_loop walk none. condition_grows (seen given walk) condition walk.faults (then_block.1.grows in_loop _ (other.1.grows in_loop _ none));
-  fits = λ invs procs in_loop walk none.
+  grows = λ in_loop resolver none. condition_grows (seen given resolver) condition resolver.faults (then_block.1.grows in_loop _ (other.1.grows in_loop _ none));
+  fits = λ invs procs in_loop resolver none.
       act_layer_fits p _ (Act-F.If _ _ _) (rolls-If _ _ _)
       (and_from _ _ (stmts_fit p _ (then_block.1.fits invs procs in_loop _ (other.1.grows in_loop _ none))) (stmts_fit p _ (other.1.fits invs procs in_loop _ none)));
 }
 statement_layer_fits p given (Statement-F.While word start condition end invariant body) = record {
-  grows = λ in_loop walk none.
-      condition_grows (seen given walk) condition walk.faults ((clause_fits p.invs given invariant).grows in_loop_invariant _ (body.1.grows true _ none));
-  fits = λ invs procs in_loop walk none.
+  grows = λ in_loop resolver none.
+      condition_grows (seen given resolver) condition resolver.faults ((clause_fits p.invs given invariant).grows in_loop_invariant _ (body.1.grows true _ none));
+  fits = λ invs procs in_loop resolver none.
       act_layer_fits p _ (Act-F.While _ _ _) (rolls-While _ _ _)
       (and_from _ _ ((clause_fits p.invs given invariant).fits invs in_loop_invariant _ true (λ is. refl) (body.1.grows true _ none))
       (stmts_fit p _ (body.1.fits invs procs true _ none)));
 }
 statement_layer_fits p given (Statement-F.Assert word start condition end semicolon) =
-    plain p given _ (λ in_loop walk none. condition_grows (seen given walk) condition walk.faults none) (λ in_loop walk. act_layer_fits p _ (Act-F.Assert _) (rolls-Assert _) refl)
+    plain p given _ (λ in_loop resolver none. condition_grows (seen given resolver) condition resolver.faults none) (λ in_loop resolver. act_layer_fits p _ (Act-F.Assert _) (rolls-Assert _) refl)
 statement_layer_fits p given (Statement-F.Print word start printed end semicolon) =
-    plain p given _ (λ in_loop walk none. number_grows (seen given walk) printed walk.faults none) (λ in_loop walk. act_layer_fits p _ (Act-F.Print _) (rolls-Print _) refl)
+    plain p given _ (λ in_loop resolver none. number_grows (seen given resolver) printed resolver.faults none) (λ in_loop resolver. act_layer_fits p _ (Act-F.Print _) (rolls-Print _) refl)
 statement_layer_fits p given (Statement-F.Free word start location end semicolon) =
-    plain p given _ (λ in_loop walk none. number_grows (seen given walk) location walk.faults none) (λ in_loop walk. act_layer_fits p _ (Act-F.Free _) (rolls-Free _) refl)
+    plain p given _ (λ in_loop resolver none. number_grows (seen given resolver) location resolver.faults none) (λ in_loop resolver. act_layer_fits p _ (Act-F.Free _) (rolls-Free _) refl)
 statement_layer_fits p given (Statement-F.Return word e semicolon) =
-    plain p given _ (λ in_loop walk none. return_grows (seen given walk) in_loop word e walk.faults none) (λ in_loop walk. act_layer_fits p _ (Act-F.Return _) (rolls-Return _) refl)
+    plain p given _ (λ in_loop resolver none. return_grows (seen given resolver) in_loop word e resolver.faults none) (λ in_loop resolver. act_layer_fits p _ (Act-F.Return _) (rolls-Return _) refl)
 statement_layer_fits p given (Statement-F.Bank word name semicolon) =
-    plain p given _ (λ in_loop walk none. noted_grows walk.faults _ none) (λ in_loop walk. act_layer_fits p _ (Act-F.Bank _) (rolls-Bank _) refl)
+    plain p given _ (λ in_loop resolver none. noted_grows resolver.faults _ none) (λ in_loop resolver. act_layer_fits p _ (Act-F.Bank _) (rolls-Bank _) refl)
 statement_layer_fits p given (Statement-F.Step timed semicolon) =
-    plain p given _ (λ in_loop walk none. step_grows (seen given walk) timed walk.faults none) (λ in_loop walk. act_layer_fits p _ (Act-F.Step _) (rolls-Step _) refl)
+    plain p given _ (λ in_loop resolver none. step_grows (seen given resolver) timed resolver.faults none) (λ in_loop resolver. act_layer_fits p _ (Act-F.Step _) (rolls-Step _) refl)
 
 statement_rolled : (p : Program) (given : Given)
     (x : Statement-F Statement Block Otherwise) (y : StatementParts p given) → bare_statement p given y ≡ x → Running p given (statement given (roll-Statement x))
@@ -341,17 +341,17 @@ statement_rolled p given x y is =
 
 -- ---- blocks
 
-run_each_grows : (p : Program) (given : Given) (parts : List (RunningStatement p given)) (in_loop : Bool) (walk : Walk)
-    → (run_each (map (statement given) (map (λ part. part.0) parts)) in_loop walk).walk.faults ≡ [] → walk.faults ≡ []
-run_each_grows p given [] in_loop walk none = none
-run_each_grows p given (part ∷ parts) in_loop walk none = part.1.grows in_loop walk (run_each_grows p given parts in_loop _ none)
+run_each_grows : (p : Program) (given : Given) (parts : List (RunningStatement p given)) (in_loop : Bool) (resolver : Resolver)
+    → (run_each (map (statement given) (map (λ part. part.0) parts)) in_loop resolver).resolver.faults ≡ [] → resolver.faults ≡ []
+run_each_grows p given [] in_loop resolver none = none
+run_each_grows p given (part ∷ parts) in_loop resolver none = part.1.grows in_loop resolver (run_each_grows p given parts in_loop _ none)
 
-run_each_fits : (p : Program) (given : Given) → HasInvariants p.invs given → HasProcedures p given → (parts : List (RunningStatement p given)) (in_loop : Bool) (walk : Walk)
-    → (run_each (map (statement given) (map (λ part. part.0) parts)) in_loop walk).walk.faults ≡ []
-    → list_all (stmt_fits p) (run_each (map (statement given) (map (λ part. part.0) parts)) in_loop walk).made ≡ true
-run_each_fits p given invs procs [] in_loop walk none = refl
-run_each_fits p given invs procs (part ∷ parts) in_loop walk none =
-    and_from _ _ (part.1.fits invs procs in_loop walk (run_each_grows p given parts in_loop _ none)) (run_each_fits p given invs procs parts in_loop _ none)
+run_each_fits : (p : Program) (given : Given) → HasInvariants p.invs given → HasProcedures p given → (parts : List (RunningStatement p given)) (in_loop : Bool) (resolver : Resolver)
+    → (run_each (map (statement given) (map (λ part. part.0) parts)) in_loop resolver).resolver.faults ≡ []
+    → list_all (stmt_fits p) (run_each (map (statement given) (map (λ part. part.0) parts)) in_loop resolver).made ≡ true
+run_each_fits p given invs procs [] in_loop resolver none = refl
+run_each_fits p given invs procs (part ∷ parts) in_loop resolver none =
+    and_from _ _ (part.1.fits invs procs in_loop resolver (run_each_grows p given parts in_loop _ none)) (run_each_fits p given invs procs parts in_loop _ none)
 
 abbrev BlockParts : Program → Given → Type 0
 BlockParts p given = Block-F (RunningStatement p given) (RunningBlock p given) (RunningOtherwise p given)
@@ -365,8 +365,8 @@ block_runs given x = block_step (map-Block Statement Block Otherwise Runs Inside
 
 block_layer_fits : (p : Program) (given : Given) (y : BlockParts p given) → RunningInside p given (block_runs given (bare_block p given y))
 block_layer_fits p given y = record {
-  grows = λ in_loop walk none. run_each_grows p given y.statements in_loop walk none;
-  fits = λ invs procs in_loop walk none. run_each_fits p given invs procs y.statements in_loop walk none;
+  grows = λ in_loop resolver none. run_each_grows p given y.statements in_loop resolver none;
+  fits = λ invs procs in_loop resolver none. run_each_fits p given invs procs y.statements in_loop resolver none;
 }
 
 block_rolled : (p : Program) (given : Given) (x : Block-F Statement Block Otherwise) (y : BlockParts p given) → bare_block p given y ≡ x

@@ -9,7 +9,7 @@ use Rattle.fsl_types.specs.declared.occurrence.Occurrence.TheVariants as occurre
 use Rattle.fsl_types.specs.declared.variable.Sort.{Sort}
 use Rattle.fsl_types.specs.declared.variable.Sort.TheVariants as sorts
 use Rattle.fsl_types.specs.declared.variable.Variable.{Variable}
-use Rattle.fsl_types.specs.declared.walk.Walk.{Walk}
+use Rattle.fsl_types.specs.declared.resolver.Resolver.{Resolver}
 use Rattle.fsl_types.specs.Faults.{faults_at}
 use Rattle.fsl_types.specs.Names.{Names, found, text_at, with_name}
 
@@ -22,7 +22,7 @@ abbrev pub noted : Occurrence → List Fault → List Fault
 noted o faults = faults ++ faults_at o
 
 -- where nothing is declared
-abbrev pub fresh : List Fault → Walk
+abbrev pub fresh : List Fault → Resolver
 fresh faults = record { names = []; slots = 0; banks = []; faults = faults }
 
 abbrev pub with_bank : Sort → ℕ → List ℕ → List ℕ
@@ -30,23 +30,23 @@ with_bank sorts.Bank slot banks = banks ++ slot ∷ []
 with_bank _ slot banks = banks
 
 -- a variable takes the next slot; a name that is visible already keeps its meaning
-abbrev pub declared : ℕ → List ℕ → Span → Sort → Walk → Walk
-declared limit bytes name sort walk = record {
-  names = with_name (text_at bytes name) (record { slot = walk.slots; sort = sort }) walk.names;
-  slots = one_more 256 walk.slots;
-  banks = with_bank sort walk.slots walk.banks;
-  faults = noted (occurrence.Declared name (is_some (found (text_at bytes name) walk.names)) walk.slots limit) walk.faults;
+abbrev pub declared : ℕ → List ℕ → Span → Sort → Resolver → Resolver
+declared limit bytes name sort resolver = record {
+  names = with_name (text_at bytes name) (record { slot = resolver.slots; sort = sort }) resolver.names;
+  slots = one_more 256 resolver.slots;
+  banks = with_bank sort resolver.slots resolver.banks;
+  faults = noted (occurrence.Declared name (is_some (found (text_at bytes name) resolver.names)) resolver.slots limit) resolver.faults;
 }
 
 -- at the end of a block the names that were declared in it go
-abbrev pub leaving : ℕ → Walk → Walk
-leaving outside walk = record walk { names = take outside walk.names }
+abbrev pub leaving : ℕ → Resolver → Resolver
+leaving outside resolver = record resolver { names = take outside resolver.names }
 
 -- the faults of a part that declares nothing
-abbrev pub judging : (List Fault → List Fault) → Walk → Walk
-judging judged walk = record walk { faults = judged walk.faults }
+abbrev pub judging : (List Fault → List Fault) → Resolver → Resolver
+judging judged resolver = record resolver { faults = judged resolver.faults }
 
 -- something that is made of a part of the tree, and what is known behind that part
 pub record Made (A : Type 0) : Type 0 where
   pub made : A
-  pub walk : Walk
+  pub resolver : Resolver

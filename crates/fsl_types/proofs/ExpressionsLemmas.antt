@@ -23,7 +23,7 @@ use Rattle.fsl_types.specs.declared.occurrence.Occurrence.TheVariants as occurre
 use Rattle.fsl_types.specs.declared.variable.Signature.{Signature}
 use Rattle.fsl_types.specs.Expressions.{Judged, Sight, addend_judged, arguments_of, banks_of, expression_judged, factor_judged, first_due, fits, in_turn, judged_addend, judged_argument, judged_arguments, judged_bank, judged_condition, judged_excluded, judged_expression, judged_factor, judged_multiplier, judged_number, judged_term, judged_use, multiplier_judged, name_alone, term_judged}
 use Rattle.fsl_types.specs.Faults.{breaks, fault_at, faults_at, is_ill_typed, is_misfit, is_miscounted, is_modal, is_no_part, is_twice, is_unknown, kinds, lacks_main, place_of}
-use Rattle.fsl_types.specs.Walks.{noted, one_more}
+use Rattle.fsl_types.specs.Resolvers.{noted, one_more}
 
 -- where no faults are behind, none were before
 abbrev pub Grows : Judged → Type 0
