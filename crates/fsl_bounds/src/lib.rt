@@ -7,8 +7,6 @@ pub mod laws;
 mod mark;
 mod row;
 mod rows;
-#[cfg(test)]
-mod tests;
 
 pub use added::Added;
 pub use bounds::Bounds;

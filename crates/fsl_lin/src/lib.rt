@@ -16,8 +16,6 @@ mod places;
 mod sign;
 mod step;
 mod sym;
-#[cfg(test)]
-mod tests;
 mod took;
 
 pub use edge::Edge;

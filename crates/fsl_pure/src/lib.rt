@@ -14,9 +14,8 @@ mod reduced;
 mod sharing;
 mod sums;
 mod table;
-#[cfg(test)]
-mod tests;
 
 pub use fault::PureFault;
 pub use pure::Pure;
 pub use sharing::{Shared, push, share_each};
+pub use sums::gap_between;

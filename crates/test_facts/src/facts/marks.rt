@@ -1,6 +1,6 @@
 //! Marks, copies, symbols, gaps and the equations.
 use super::said::{assumed, facts, proved, term};
-use crate::{Pure, PureFault};
+use fsl_pure::{Pure, PureFault};
 
 /// `back` puts facts and symbols back as they were at the mark.
 #[test]

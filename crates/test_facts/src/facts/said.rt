@@ -1,8 +1,8 @@
 //! Facts and questions as text, such as `2a + 3 <= b`. Symbols are named by letters: a is symbol 0.
 ghost use Rattle.std.specs.Prelude.{◌≡◌};
 
-use crate::Pure;
 use fsl_lin::{Lin, LinFault, Sym};
+use fsl_pure::Pure;
 use std::alloc::Global;
 
 /// A bound or an equation: the numbers of its left side less its right side, the constant first.
@@ -14,7 +14,7 @@ pub struct Said {
 
 /// What was read of a fact so far: the sign of the side and that of the item, and the item's number.
 #[derive(Drop)]
-struct Reading {
+struct Progress {
     side: i128,
     sign: i128,
     count: Option<i128>,
@@ -27,52 +27,54 @@ impl Said {
             numbers: [0; 27],
             equal: true,
         };
-        let mut reading = Reading {
+        let mut progress = Progress {
             side: 1,
             sign: 1,
             count: None,
         };
         for byte in text.as_bytes() {
-            said.take(&mut reading, *byte);
+            said.take(&mut progress, *byte);
         }
-        said.end(&mut reading, 1);
+        said.end(&mut progress, 1);
         said
     }
 
-    fn take(&mut self, reading: &mut Reading, byte: u8) {
+    fn take(&mut self, progress: &mut Progress, byte: u8) {
         match byte {
             b'0'..=b'9' => {
                 let digit = i128::from(byte - b'0');
-                let before = reading.count.unwrap_or(0);
-                reading.count = Some(before.wrapping_mul(10).wrapping_add(digit));
+                let before = progress.count.unwrap_or(0);
+                progress.count = Some(before.wrapping_mul(10).wrapping_add(digit));
             }
             b'a'..=b'z' => {
-                let times = reading.count.unwrap_or(1);
-                self.add((byte - b'a') as usize + 1, reading, times);
-                reading.count = None;
+                let times = progress.count.unwrap_or(1);
+                self.add((byte - b'a') as usize + 1, progress, times);
+                progress.count = None;
             }
-            b'+' => self.end(reading, 1),
-            b'-' => self.end(reading, -1),
+            b'+' => self.end(progress, 1),
+            b'-' => self.end(progress, -1),
             b'<' => self.equal = false,
             b'=' => {
-                self.end(reading, 1);
-                reading.side = -1;
+                self.end(progress, 1);
+                progress.side = -1;
             }
             _ => (),
         }
     }
 
     /// Ends an item, and begins one of this sign.
-    fn end(&mut self, reading: &mut Reading, sign: i128) {
-        let number = reading.count.unwrap_or(0);
-        self.add(0, reading, number);
-        reading.count = None;
-        reading.sign = sign;
+    fn end(&mut self, progress: &mut Progress, sign: i128) {
+        let number = progress.count.unwrap_or(0);
+        self.add(0, progress, number);
+        progress.count = None;
+        progress.sign = sign;
     }
 
-    fn add(&mut self, place: usize, reading: &Reading, times: i128) {
+    fn add(&mut self, place: usize, progress: &Progress, times: i128) {
         if place < 27 {
-            let more = times.wrapping_mul(reading.sign).wrapping_mul(reading.side);
+            let more = times
+                .wrapping_mul(progress.sign)
+                .wrapping_mul(progress.side);
             self.numbers[place] = self.numbers[place].wrapping_add(more);
         }
     }

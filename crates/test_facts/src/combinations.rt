@@ -1,5 +1,6 @@
-use crate::{Eqs, Lin, LinFault, PLACES, Sym, Took, is_constant};
+//! Combinations at their bounds, and equations that are reduced, refused and left out.
 use fsl_base::{Same, TryClone};
+use fsl_lin::{Eqs, Lin, LinFault, PLACES, Sym, Took, is_constant};
 
 /// Coefficients go up to 2^24, and no further.
 #[test]

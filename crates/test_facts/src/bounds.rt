@@ -1,4 +1,5 @@
-use crate::{Added, Bounds};
+//! Least walks, the edges that close one below 0, and marks.
+use fsl_bounds::{Added, Bounds};
 
 /// The least walk from 1 to 3, and the edge back that closes it below 0.
 #[test]

@@ -2,8 +2,8 @@
 ghost use Rattle.std.specs.Prelude.{◌<◌};
 
 use super::said::{assumed, facts, proved, term};
-use crate::{Pure, PureFault};
 use fsl_lin::{Lin, LinFault, Sym};
+use fsl_pure::{Pure, PureFault};
 use std::alloc::Global;
 
 /// A reduced equation past the bounds of a combination is refused, and so is a bound; what was known stays.
