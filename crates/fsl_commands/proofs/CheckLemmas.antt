@@ -14,7 +14,7 @@ pub judged_is : {E : Type 0} (r : Reading) (bytes : List ℕ) (p : Program) → 
 judged_is r bytes p program (Ok a) is = judged bytes p program is
 judged_is r bytes p program (Err e) is = tt
 
-pub refused_is : {E : Type 0} (r : Reading) (unread : Unread) → CausedBy Check r unread
-    → (result : Result Answer E) → IfOk result (λ a. refusal unread ≡ Some a) → IfOk result (λ a. IsChecked r a)
-refused_is r unread cause (Ok a) is = refused unread cause is
-refused_is r unread cause (Err e) is = tt
+pub refused_is : {E : Type 0} (r : Reading) (none : Unread) → CausedBy Check r none
+    → (result : Result Answer E) → IfOk result (λ a. refusal none ≡ Some a) → IfOk result (λ a. IsChecked r a)
+refused_is r none cause (Ok a) is = refused none cause is
+refused_is r none cause (Err e) is = tt

@@ -1,5 +1,5 @@
 -- The bytes of a file spell no other tree, and so are no other program; and why they are none that a command supports.
-use Rattle.std.proofs.Common.{◌≡◌, ◌≤◌, inl, inr, true, false, ℕ, List, [], Result, Ok, Err, Some, None, length, sym, ap, subst, ◌∙◌}
+use Rattle.std.proofs.Common.{◌≡◌, ◌≤◌, inl, inr, true, false, ℕ, List, [], Result, Ok, Err, Some, None, length, sym, ap, ◌∙◌}
 use Rattle.fsl_base.specs.declared.span.Span.{Span}
 use Rattle.fsl_core.specs.Programs.{Program}
 use Rattle.fsl_parse.specs.declared.fault.ParseFault.TheVariants as parse_faults
@@ -23,9 +23,7 @@ use Rattle.fsl_types.specs.Reading.{IsTreeOf, ReadsAs}
 use Rattle.fsl_commands.specs.declared.command.Command.{Command}
 use Rattle.fsl_commands.specs.Changes.{Reading}
 use Rattle.fsl_commands.specs.Command.{supports}
-use Rattle.fsl_commands.specs.Loading.{CausedBy, HasFile, IsFault, IsNoProgram, IsOnly, IsRefused, IsRefusedFor, bad_token}
-use Rattle.fsl_commands.specs.declared.loading.Fault.TheVariants as faults
-use Rattle.fsl_commands.specs.declared.unread.Unread.TheVariants as unread
+use Rattle.fsl_commands.specs.Loading.{HasFile, IsNoProgram, IsOnly, IsRefused, IsRefusedFor, bad_token}
 
 abbrev as_tokens : List Token → Result (List Token) LexFault
 as_tokens tokens = Ok tokens
@@ -107,9 +105,9 @@ not_supported bytes file q command is only sound made other = record {
 pub cause_of : (command : Command) (r : Reading) (bytes : List ℕ) (why : Refused) → HasFile r.before.content r.name bytes
     → IsRefused command bytes why → IsRefusedFor command r bytes why
 cause_of command r bytes refusals.Size file is = absurd is.has
-cause_of command r bytes (refusals.Text at) file is = record { file = file; why = is }
-cause_of command r bytes (refusals.Token bad at) file is = record { file = file; why = is }
-cause_of command r bytes (refusals.Syntax place) file is = record { file = file; why = is }
-cause_of command r bytes (refusals.Deep place) file is = record { file = file; why = is }
-cause_of command r bytes (refusals.Types kind place) file is = record { file = file; why = is }
-cause_of command r bytes refusals.Form file is = record { file = file; why = is }
+cause_of command r bytes (refusals.Text at) file is = record { file = file; refused = is }
+cause_of command r bytes (refusals.Token bad at) file is = record { file = file; refused = is }
+cause_of command r bytes (refusals.Syntax place) file is = record { file = file; refused = is }
+cause_of command r bytes (refusals.Deep place) file is = record { file = file; refused = is }
+cause_of command r bytes (refusals.Types kind place) file is = record { file = file; refused = is }
+cause_of command r bytes refusals.Form file is = record { file = file; refused = is }

@@ -19,10 +19,10 @@ pub run_is : {E : Type 0} (r : Reading) (steps : ℕ) (bytes : List ℕ) (p : Pr
 run_is r steps bytes p program (Ok a) is = has_program bytes p program is
 run_is r steps bytes p program (Err e) is = tt
 
-pub not_read_is : {E : Type 0} (r : Reading) (steps : ℕ) (unread : Unread) → CausedBy Run r unread
-    → (result : Result Answer E) → IfOk result (λ a. refusal unread ≡ Some a) → IfOk result (IsRan r steps)
-not_read_is r steps unread cause (Ok a) is = has_none unread cause is
-not_read_is r steps unread cause (Err e) is = tt
+pub not_read_is : {E : Type 0} (r : Reading) (steps : ℕ) (none : Unread) → CausedBy Run r none
+    → (result : Result Answer E) → IfOk result (λ a. refusal none ≡ Some a) → IfOk result (IsRan r steps)
+not_read_is r steps none cause (Ok a) is = has_none none cause is
+not_read_is r steps none cause (Err e) is = tt
 
 pub runs_so : {E : Type 0} (bytes : List ℕ) (p : Program) (steps : ℕ) (g : Graph) (end : End) → verdict_status (verdict_of p) ≡ 0 → IsRunOf p steps g end
     → (result : Result Answer E) → IfOk result (λ a. a ≡ run_answer g end) → IfOk result (IsRunAnswer bytes p steps)

@@ -2,7 +2,7 @@
 -- file; there are too many bytes; or no tokens, no tree, a fault of names and types, or a program that the command
 -- doesn't support. Of the causes in the bytes at most one applies, as their tokens are the only ones and the tree of
 -- these is the only one.
-use Rattle.std.specs.Prelude.{◌≡◌, ◌≤◌, ◌<◌, ◌⊎◌, ℕ, true, false, List, [], length, Option, Some, None, Ok, Err, IsTrue}
+use Rattle.std.specs.Prelude.{◌≡◌, ◌≤◌, ◌<◌, ◌⊎◌, ℕ, true, false, List, [], length, Some, None, Ok, Err, IsTrue}
 use Rattle.fsl_base.specs.Outside.{Content, Rose, HoldsNo, raised}
 use Rattle.fsl_core.specs.Programs.{Program}
 use Rattle.fsl_parse.specs.declared.fault.ParseFault.TheVariants as parse_faults
@@ -99,7 +99,7 @@ IsFault command bytes faults.NoMemory = Unit {0}
 -- a file was read, and its bytes are refused
 pub record IsRefusedFile (command : Command) (r : Reading) (bytes : List ℕ) (why : Refused) : Type 0 where
   pub file : HasFile r.before.content r.name bytes
-  pub why : IsRefused command bytes why
+  pub refused : IsRefused command bytes why
 
 -- why a file is refused: it has too many bytes, or by what they are
 abbrev pub IsRefusedFor : Command → Reading → List ℕ → Refused → Type 0
