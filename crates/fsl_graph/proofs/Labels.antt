@@ -19,7 +19,8 @@ use Rattle.fsl_core.specs.declared.declaration.Proc.{Proc}
 use Rattle.fsl_core.specs.Programs.{Program}
 use Rattle.fsl_core.specs.Values.{in_range, value_of, holds_of}
 use Rattle.fsl_core.specs.Moves.{Frame, Config, running, joining, returned, halted, failed, Moved, Move, showing, given, entered, read_reply, place_reply, threads_reply, results_reply, added, reading_mode, branching, after_assert, returning, entering, calling, forking, with_stmts, set_target, act_move, frame_move, move_of, started_at, start_of, started_of, arguments_of}
-use Rattle.fsl_core.specs.WellFormed.{is_well_formed, is_load_mode, is_update_mode, is_failure_mode, is_fence_mode, inv_fits, asrt_fits, act_step, act_fits, stmt_fits, proc_fits, is_main}
+use Rattle.fsl_core.specs.WellFormed.{is_well_formed, is_load_mode, is_update_mode, is_failure_mode, is_fence_mode, inv_is_well, asrt_fits, act_step, act_fits, stmt_fits, proc_fits, proc_is_well, is_startable, main_among}
+use Rattle.fsl_core.specs.Scopes.{proc_is_scoped}
 use Rattle.fsl_graph.specs.declared.event.Event.{Event}
 use Rattle.fsl_graph.specs.declared.graph.Graph.{Graph}
 use Rattle.fsl_graph.specs.Events.{Is}
@@ -252,8 +253,17 @@ start_stands p q proc args = by_proc (slice_get p.procs proc) (λ z e. body_fits
     by_proc (Some z) h = (h z refl, tt)
 
 -- the procedures of a well-formed program fit
+well_fits : (p : Program) (procs : List Proc) → list_all (proc_is_well p) procs ≡ true → list_all (proc_fits p) procs ≡ true
+well_fits p [] h = refl
+well_fits p (q ∷ qs) h =
+    let a = and_parts (proc_is_well p q) (list_all (proc_is_well p) qs) h in
+    let b = and_parts (proc_fits p q) (proc_is_scoped p.procs q) a.0 in
+    let r = well_fits p qs a.1 in
+    rw (b.0, r) refl
+
 procs_fit : (p : Program) → is_well_formed p ≡ true → ProcsFit p
-procs_fit p h = (and_parts (list_all (proc_fits p) p.procs) (list_any is_main p.procs) (and_parts (list_all (inv_fits p.invs) p.invs) _ h).1).0
+procs_fit p h = well_fits p p.procs (and_parts (list_all (proc_is_well p) p.procs) (is_startable (main_among p.procs))
+    (and_parts (list_all (inv_is_well p.invs) p.invs) _ h).1).0
 
 pub labels_have_modes : LabelsHaveModes
 labels_have_modes p g last w x e y is = elim (slice_get_cases g.threads y.thread).1 [

@@ -1,9 +1,8 @@
 -- What it is to be an execution of a program: each thread of the graph can make its moves, with the answers
 -- that its events show, and these are its events. A thread need not have returned: an execution cut short is
 -- an execution.
-use Rattle.std.specs.Prelude.{ℕ, suc, ◌≡◌, ◌<◌, ◌==◌, slice_get, List, [], ◌∷◌, length, Option, Some, None, ℤ, pos, if◌then◌else◌, codes, map}
+use Rattle.std.specs.Prelude.{ℕ, suc, ◌≡◌, ◌<◌, ◌==◌, slice_get, List, [], ◌∷◌, length, Option, Some, None, ℤ, pos, if◌then◌else◌, map}
 use Rattle.std.specs.Prelude.{◌<ℤ◌}
-use Rattle.std.specs.Str.{bytes_eq}
 use Rattle.fsl_core.specs.declared.label.Ended.{Ended}
 use Rattle.fsl_core.specs.declared.label.Label.{Label}
 use Rattle.fsl_core.specs.declared.label.Label.TheVariants as label
@@ -13,8 +12,7 @@ use Rattle.fsl_core.specs.declared.need.Need.TheVariants as need
 use Rattle.fsl_core.specs.declared.need.Reply.{Reply}
 use Rattle.fsl_core.specs.declared.need.Reply.TheVariants as reply
 use Rattle.fsl_core.specs.declared.need.Started.{Started}
-use Rattle.fsl_core.specs.declared.declaration.Proc.{Proc}
-use Rattle.fsl_core.specs.Programs.{Program}
+use Rattle.fsl_core.specs.Programs.{Program, main_of}
 use Rattle.fsl_core.specs.Moves.{Config, returned, showing, moved, need_of, start_of}
 use Rattle.fsl_graph.specs.declared.event.Event.{Event}
 use Rattle.fsl_graph.specs.declared.graph.Graph.{Graph}
@@ -84,14 +82,6 @@ pub data Runs (p : Program) (g : Graph) : Config → ℕ → List ℕ → Config
       → Answers g (need_of p c) x.label → Runs p g next n es last → Runs p g c (suc n) (e ∷ es) last
 
 -- ---- the whole
-
--- the number of the procedure `main`
-abbrev pub named_from : ℕ → List Proc → Option ℕ
-named_from n [] = None
-named_from n (proc ∷ procs) = if bytes_eq proc.name (codes "main") then Some n else named_from (suc n) procs
-
-abbrev pub main_of : Program → Option ℕ
-main_of p = named_from 0 p.procs
 
 -- event e starts thread t
 pub record Starts (g : Graph) (e t : ℕ) : Type 0 where

@@ -6,11 +6,11 @@ use Rattle.std.specs.Prelude.{codes}
 use Rattle.std.specs.Str.{bytes_eq}
 use Rattle.fsl_core.specs.declared.label.Label.TheVariants as label
 use Rattle.fsl_core.specs.declared.declaration.Proc.{Proc}
-use Rattle.fsl_core.specs.Programs.{Program}
+use Rattle.fsl_core.specs.Programs.{Program, main_of, named_from}
 use Rattle.fsl_core.specs.Moves.{Config, start_of}
 use Rattle.fsl_core.specs.Straight.{is_straight_proc, is_one_straight, is_straight, is_empty}
 use Rattle.fsl_graph.specs.declared.graph.Thread.{Thread}
-use Rattle.fsl_graph.specs.Execution.{Runs, IsExecution, IsThread, events_of, main_of, named_from, Starts}
+use Rattle.fsl_graph.specs.Execution.{Runs, IsExecution, IsThread, events_of, Starts}
 use Rattle.fsl_graph.specs.Lone.{is_plain}
 use Rattle.fsl_machine.specs.Serial.{IsSerial, IsPlaced}
 use Rattle.fsl_machine.specs.States.{lone_graph}
