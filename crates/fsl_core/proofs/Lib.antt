@@ -6,3 +6,4 @@ pub mod JudgedMessages
 pub mod JudgedUpdates
 pub mod Parts
 pub mod Quick
+pub mod Sights

@@ -1,10 +1,9 @@
 -- Well-formed programs: the rules of names and types, as far as they can be said of numbers. Every use has as many
 -- arguments as there are parameters, and names a part that there is; accesses and fences have modes that are theirs;
--- modalities stand neither in invariants nor in fences nor in each other, nor in a contract that is used by `par`;
--- `main` has neither parameters nor `requires`.
-use Rattle.std.specs.Prelude.{ℕ, Bool, true, false, ◌&&◌, List, Option, Some, None, length, slice_get, nat_lt, ◌==◌, codes}
-use Rattle.std.specs.List.{list_all, list_any}
-use Rattle.std.specs.Str.{bytes_eq}
+-- modalities stand neither in invariants nor in fences nor in each other, nor in a contract that is used by `par`, which
+-- has 2 to 8 calls; variables are scoped and of a sort; `main` is there, with neither parameters nor `requires`.
+use Rattle.std.specs.Prelude.{ℕ, Bool, true, false, ◌&&◌, List, Option, Some, None, length, slice_get, nat_le, nat_lt, ◌==◌}
+use Rattle.std.specs.List.{list_all}
 use Rattle.fsl_core.specs.declared.act.Act.{Act}
 use Rattle.fsl_core.specs.declared.act.Act.TheOpen.{Act-F}
 use Rattle.fsl_core.specs.declared.act.Act.TheFolds.{fold-Act}
@@ -19,7 +18,8 @@ use Rattle.fsl_core.specs.declared.mode.Mode.{Mode}
 use Rattle.fsl_core.specs.declared.mode.Mode.TheVariants.{Na, Rlx, Acq, Rel, AcqRel}
 use Rattle.fsl_core.specs.declared.declaration.Inv.{Inv}
 use Rattle.fsl_core.specs.declared.declaration.Proc.{Proc}
-use Rattle.fsl_core.specs.Programs.{Program}
+use Rattle.fsl_core.specs.Programs.{Program, named_from}
+use Rattle.fsl_core.specs.Scopes.{inv_is_scoped, proc_is_scoped}
 use Rattle.fsl_core.specs.Straight.{is_emp}
 
 -- ---- uses of invariants and procedures
@@ -97,6 +97,9 @@ proc_is_plain invs (Some proc) = asrt_fits invs proc.pre false && asrt_fits invs
 abbrev pub child_fits : Program → Called → Bool
 child_fits p call = call_fits p call.proc call.args && proc_is_plain p.invs (slice_get p.procs call.proc)
 
+abbrev pub is_par_size : ℕ → Bool
+is_par_size n = nat_le 2 n && nat_le n 8
+
 abbrev pub act_step : Program → Act-F Bool Bool → Bool
 act_step p (Act-F.AllocAt slot rmw inst) = inst_fits p.invs inst
 act_step p (Act-F.Load slot mode at) = is_load_mode mode
@@ -105,7 +108,7 @@ act_step p (Act-F.Cas slot mode fail at old new steps) = is_update_mode mode && 
 act_step p (Act-F.Add slot mode at e steps) = is_update_mode mode
 act_step p (Act-F.Swap slot mode at e steps) = is_update_mode mode
 act_step p (Act-F.Call slot proc args) = call_fits p proc args
-act_step p (Act-F.Par calls) = list_all (child_fits p) calls
+act_step p (Act-F.Par calls) = is_par_size (length calls) && list_all (child_fits p) calls
 act_step p (Act-F.Fence mode asrt) = is_fence_mode mode && asrt_fits p.invs asrt false
 act_step p (Act-F.If cond a b) = list_all (λ stmt. stmt) a && list_all (λ stmt. stmt) b
 act_step p (Act-F.While cond inv body) = asrt_fits p.invs inv true && list_all (λ stmt. stmt) body
@@ -125,8 +128,25 @@ inv_fits invs inv = list_all (λ part. asrt_fits invs part false) inv.parts
 abbrev pub proc_fits : Program → Proc → Bool
 proc_fits p proc = asrt_fits p.invs proc.pre true && (asrt_fits p.invs proc.post true && list_all (stmt_fits p) proc.body)
 
-abbrev pub is_main : Proc → Bool
-is_main proc = bytes_eq proc.name (codes "main") && (proc.params == 0 && is_emp proc.pre)
+-- a run may start this procedure
+abbrev pub is_startable : Option Proc → Bool
+is_startable None = false
+is_startable (Some proc) = proc.params == 0 && is_emp proc.pre
+
+abbrev pub nth_of : List Proc → Option ℕ → Option Proc
+nth_of procs None = None
+nth_of procs (Some number) = slice_get procs number
+
+-- the procedure that a run starts
+abbrev pub main_among : List Proc → Option Proc
+main_among procs = nth_of procs (named_from 0 procs)
+
+-- uses fit declarations, and variables are scoped
+abbrev pub inv_is_well : List Inv → Inv → Bool
+inv_is_well invs inv = inv_fits invs inv && inv_is_scoped inv
+
+abbrev pub proc_is_well : Program → Proc → Bool
+proc_is_well p proc = proc_fits p proc && proc_is_scoped p.procs proc
 
 abbrev pub is_well_formed : Program → Bool
-is_well_formed p = list_all (inv_fits p.invs) p.invs && (list_all (proc_fits p) p.procs && list_any is_main p.procs)
+is_well_formed p = list_all (inv_is_well p.invs) p.invs && (list_all (proc_is_well p) p.procs && is_startable (main_among p.procs))

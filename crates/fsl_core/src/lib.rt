@@ -22,12 +22,13 @@ mod same_act;
 mod same_assertion;
 mod same_declaration;
 mod same_expr;
+mod scope;
+mod scoping;
 mod straight;
-#[cfg(test)]
-mod tests;
 mod values;
 mod verdict;
 mod well_formed;
+mod well_scoped;
 
 pub use act::{Act, Called, Step, Stmt};
 pub use assertion::{Asrt, Inst, Pat};

@@ -1,9 +1,10 @@
 //! Whether invariants and procedures are a well-formed program. The check takes no memory. It looks at each
 //! contract once, however often `par` uses it, so that its time is in proportion to the program's size.
 ghost use Rattle.std.specs.Prelude.{◌≡◌, slice_get};
-ghost use Rattle.std.specs.List.{list_all, list_any};
+ghost use Rattle.std.specs.List.{list_all};
 ghost use Rattle.fsl_core.specs.Marks.{AreMarked};
-ghost use Rattle.fsl_core.specs.WellFormed.{asrt_fits, is_load_mode, is_store_mode, is_update_mode, is_failure_mode, is_fence_mode, proc_is_plain, call_fits, child_fits, act_fits, stmt_fits, inv_fits, proc_fits, is_main, is_well_formed};
+ghost use Rattle.fsl_core.specs.Programs.{named_from};
+ghost use Rattle.fsl_core.specs.WellFormed.{asrt_fits, is_load_mode, is_store_mode, is_update_mode, is_failure_mode, is_fence_mode, proc_is_plain, call_fits, child_fits, is_par_size, act_fits, stmt_fits, proc_fits, inv_is_well, proc_is_well, is_startable, main_among, is_well_formed};
 
 use crate::act::{Act, Called, Stmt};
 use crate::assertion::Asrt;
@@ -12,6 +13,7 @@ use crate::expr::Expr;
 use crate::fitting::{asrt_fits, inst_fits, inv_fits, is_plain};
 use crate::mode::Mode;
 use crate::straight::is_emp;
+use crate::well_scoped::{inv_is_scoped, proc_is_scoped};
 use std::marker::Model;
 
 /// How many procedures have a mark: as many as a file may declare.
@@ -85,6 +87,13 @@ fn is_fence_mode(mode: Mode) -> bool
     }
 }
 
+/// Whether a `par` may have so many calls.
+fn is_par_size(calls: usize) -> bool
+    ensures { result ≡ is_par_size calls }
+{
+    2 <= calls && calls <= 8
+}
+
 impl<'a> Given<'a> {
     /// Whether there is the procedure, with so many parameters.
     fn call_fits(&self, proc: u32, args: &[Expr]) -> bool
@@ -147,7 +156,7 @@ impl<'a> Given<'a> {
             Act::Add { mode, .. } => is_update_mode(*mode),
             Act::Swap { mode, .. } => is_update_mode(*mode),
             Act::Call { proc, args, .. } => self.call_fits(*proc, args.as_slice()),
-            Act::Par { calls } => self.children_fit(calls.as_slice()),
+            Act::Par { calls } => is_par_size(calls.len()) && self.children_fit(calls.as_slice()),
             Act::Fence { mode, asrt } => is_fence_mode(*mode) && self.asrt_fits(asrt, false),
             Act::If { yes, no, .. } => {
                 self.block_fits(yes.as_slice()) && self.block_fits(no.as_slice())
@@ -181,12 +190,19 @@ impl<'a> Given<'a> {
             && self.block_fits(proc.body.as_slice())
     }
 
-    /// Whether all procedures fit.
-    fn procs_fit(&self) -> bool
-        ensures { result ≡ list_all (proc_fits self.now) self.now.procs }
+    /// Whether a procedure fits, and its variables are scoped.
+    fn proc_is_well(&self, proc: &Proc) -> bool
+        ensures { result ≡ proc_is_well self.now proc.now }
+    {
+        self.proc_fits(proc) && proc_is_scoped(self.procs, proc)
+    }
+
+    /// The same of all procedures.
+    fn procs_are_well(&self) -> bool
+        ensures { result ≡ list_all (proc_is_well self.now) self.now.procs }
     {
         for proc in self.procs {
-            if !self.proc_fits(proc) {
+            if !self.proc_is_well(proc) {
                 return false;
             }
         }
@@ -194,35 +210,41 @@ impl<'a> Given<'a> {
     }
 }
 
-/// Whether all invariants fit.
-fn invs_fit(invs: &[Inv]) -> bool
-    ensures { result ≡ list_all (inv_fits invs.now) invs.now }
+/// Whether all invariants fit, and their variables are scoped.
+fn invs_are_well(invs: &[Inv]) -> bool
+    ensures { result ≡ list_all (inv_is_well invs.now) invs.now }
 {
     for inv in invs {
-        if !inv_fits(invs, inv) {
+        if !(inv_fits(invs, inv) && inv_is_scoped(inv)) {
             return false;
         }
     }
     true
 }
 
-/// Whether a procedure is a `main` with neither parameters nor `requires`.
-fn is_main(proc: &Proc) -> bool
-    ensures { result ≡ is_main proc.now }
+/// The number of the procedure that a run starts: the first that is named `main`.
+fn main_of(procs: &[Proc]) -> Option<usize>
+    ensures { result ≡ named_from 0 procs.now }
 {
-    proc.name.as_str() == "main" && proc.params == 0 && is_emp(&proc.pre)
-}
-
-/// Whether there is such a `main`.
-fn has_main(procs: &[Proc]) -> bool
-    ensures { result ≡ list_any is_main procs.now }
-{
-    for proc in procs {
-        if is_main(proc) {
-            return true;
+    for (number, proc) in procs.iter().enumerate() {
+        if proc.name.as_str() == "main" {
+            return Some(number);
         }
     }
-    false
+    None
+}
+
+/// Whether there is a procedure that a run may start.
+fn has_main(procs: &[Proc]) -> bool
+    ensures { result ≡ is_startable (main_among procs.now) }
+{
+    match main_of(procs) {
+        Some(number) => match procs.get(number) {
+            Some(main) => main.params == 0 && is_emp(&main.pre),
+            None => false,
+        },
+        None => false,
+    }
 }
 
 /// Which of the first procedures have contracts without modalities.
@@ -248,5 +270,5 @@ pub(crate) fn is_well_formed(invs: &[Inv], procs: &[Proc]) -> bool
         procs,
         plain: &plain,
     };
-    invs_fit(invs) && given.procs_fit() && has_main(procs)
+    invs_are_well(invs) && given.procs_are_well() && has_main(procs)
 }

@@ -1,107 +1,10 @@
-//! Tests of what no clause says: values at the edges of the range, and that copies succeed where there
-//! is memory.
-
-ghost use Rattle.std.specs.Prelude.{◌≡◌, [], ◌∷◌, IsTrue, IfOk};
-ghost use Rattle.fsl_core.specs.Values.{slots_below};
-
-use crate::act::{Act, Called, Step, Stmt};
-use crate::assertion::{Asrt, Inst, Pat};
-use crate::declaration::{Inv, Proc};
-use crate::expr::{CmpOp, Cond, Expr, Part};
-use crate::mode::Mode;
-use crate::program::Program;
-use crate::values::{eval, holds};
-use fsl_base::{Boxed, List, Span, Text};
+//! Copies and equality of a program that has one of everything.
+use crate::building::{Slots, at, constant, equal, one, procedure, variable};
+use fsl_base::{Boxed, List, Text};
+use fsl_core::{
+    Act, Asrt, Called, CmpOp, Cond, Expr, Inst, Inv, Mode, Part, Pat, Proc, Program, Step, Stmt,
+};
 use std::alloc::{AllocError, Global};
-
-const LEAST: i128 = -9_223_372_036_854_775_808;
-
-const GREATEST: i128 = 9_223_372_036_854_775_807;
-
-fn one<T: Drop>(alloc: Global, item: T) -> Result<List<T>, AllocError>
-    ensures { IfOk result (λ list. list ≡ item ∷ []) }
-{
-    let mut items = List::new(alloc);
-    items.push(item)?;
-    Ok(items)
-}
-
-#[test]
-fn a_constant_is_a_value_within_the_range_alone(rt: HostRuntime) {
-    let env = List::new(rt.alloc());
-    for (n, want) in [
-        (LEAST, Some(i64::MIN)),
-        (GREATEST, Some(i64::MAX)),
-        (LEAST - 1, None),
-        (GREATEST + 1, None),
-    ] {
-        assert_eq!(rt; eval(&Expr::Const { n }, &env), want);
-    }
-}
-
-#[test]
-fn a_condition_compares_its_sides(rt: HostRuntime) {
-    let env = List::new(rt.alloc());
-    for (op, below, equal, above) in [
-        (CmpOp::Eq, false, true, false),
-        (CmpOp::Ne, true, false, true),
-        (CmpOp::Lt, true, false, false),
-        (CmpOp::Le, true, true, false),
-        (CmpOp::Gt, false, false, true),
-        (CmpOp::Ge, false, true, true),
-    ] {
-        for (n, want) in [(-1, below), (0, equal), (1, above)] {
-            let l = Expr::Const { n };
-            let r = Expr::Const { n: 0 };
-            assert_eq!(rt; holds(&Cond::Cmp { op, l, r }, &env), Some(want));
-        }
-    }
-}
-
-// `l + r`, or `l - r`.
-fn sum(alloc: Global, l: i128, minus: bool, r: i128) -> Result<Expr, AllocError>
-    ensures { IfOk result (λ e. IsTrue (slots_below 0 e)) }
-{
-    let e = Expr::Const { n: l };
-    let mut parts = one(alloc, Part { minus: false, e })?;
-    let e = Expr::Const { n: r };
-    parts.push(Part { minus, e })?;
-    Ok(Expr::Sum { parts })
-}
-
-// `-n`
-fn negation(alloc: Global, n: i128) -> Result<Expr, AllocError>
-    ensures { IfOk result (λ e. IsTrue (slots_below 0 e)) }
-{
-    let e = Boxed::new(alloc, Expr::Const { n })?;
-    Ok(Expr::Neg { e })
-}
-
-#[test]
-fn a_result_is_a_value_within_the_range_alone(rt: HostRuntime) {
-    let env = List::new(rt.alloc());
-    for (l, minus, r, want) in [
-        (GREATEST, false, 1, None),
-        (GREATEST, true, 1, Some(i64::MAX - 1)),
-        (LEAST, true, 1, None),
-        (LEAST, false, GREATEST, Some(-1)),
-    ] {
-        let e = sum(rt.alloc(), l, minus, r).expect(&rt, "no memory");
-        assert_eq!(rt; eval(&e, &env), want);
-    }
-    for (n, want) in [
-        (GREATEST, Some(i64::MIN + 1)),
-        (GREATEST + 1, None),
-        (LEAST, None),
-    ] {
-        let e = negation(rt.alloc(), n).expect(&rt, "no memory");
-        assert_eq!(rt; eval(&e, &env), want);
-    }
-}
-
-fn constant(n: i128) -> Expr {
-    Expr::Const { n }
-}
 
 fn inst(alloc: Global) -> Result<Inst, AllocError> {
     let args = one(alloc, constant(1))?;
@@ -112,11 +15,11 @@ fn condition() -> Cond {
     Cond::Cmp {
         op: CmpOp::Le,
         l: constant(1),
-        r: Expr::Var { slot: 0 },
+        r: variable(0),
     }
 }
 
-// An expression of every kind.
+// An expression of every kind, for the `ensures` of a procedure with a parameter.
 fn expression(alloc: Global) -> Result<Expr, AllocError> {
     let mut parts = List::new(alloc);
     parts.push(Part {
@@ -128,7 +31,7 @@ fn expression(alloc: Global) -> Result<Expr, AllocError> {
         minus: true,
         e: Expr::Neg { e },
     })?;
-    let factors = one(alloc, Expr::Var { slot: 1 })?;
+    let factors = one(alloc, variable(0))?;
     parts.push(Part {
         minus: false,
         e: Expr::Product { parts: factors },
@@ -139,7 +42,7 @@ fn expression(alloc: Global) -> Result<Expr, AllocError> {
 fn add_memory_assertions(alloc: Global, to: &mut List<Asrt>) -> Result<(), AllocError> {
     to.push(Asrt::Emp)?;
     to.push(Asrt::Fact { cond: condition() })?;
-    for pat in [Pat::Any, Pat::Bind { slot: 1 }, Pat::Is { e: constant(3) }] {
+    for pat in [Pat::Any, Pat::Bind { slot: 2 }, Pat::Is { e: constant(3) }] {
         let at = constant(1);
         let share = constant(2);
         to.push(Asrt::Points { at, share, pat })?;
@@ -167,11 +70,11 @@ fn add_leaves_and_tokens(alloc: Global, to: &mut List<Asrt>, n: i128) -> Result<
         inst: second,
     })?;
     to.push(Asrt::Tok {
-        bank: 2,
+        bank: 0,
         n: constant(1),
     })?;
     to.push(Asrt::Auth {
-        bank: 2,
+        bank: 0,
         n: constant(1),
     })
 }
@@ -204,11 +107,6 @@ fn modalities(alloc: Global) -> Result<Asrt, AllocError> {
     Ok(Asrt::Both { parts })
 }
 
-fn at(act: Act) -> Stmt {
-    let span = Span { from: 3, to: 5 };
-    Stmt { span, act }
-}
-
 fn token_step() -> Step {
     Step {
         mint: true,
@@ -218,8 +116,11 @@ fn token_step() -> Step {
 }
 
 fn add_accesses(alloc: Global, to: &mut List<Stmt>) -> Result<(), AllocError> {
-    let e = expression(alloc)?;
-    to.push(at(Act::Set { slot: 1, e }))?;
+    to.push(at(Act::Set {
+        slot: 0,
+        e: constant(1),
+    }))?;
+    to.push(at(Act::Bank { slot: 2 }))?;
     to.push(at(Act::AllocNa { slot: 1 }))?;
     let inst = inst(alloc)?;
     to.push(at(Act::AllocAt {
@@ -277,7 +178,9 @@ fn add_calls(alloc: Global, to: &mut List<Stmt>) -> Result<(), AllocError> {
         args,
     }))?;
     let args = one(alloc, constant(1))?;
-    let calls = one(alloc, Called { proc: 1, args })?;
+    let mut calls = one(alloc, Called { proc: 1, args })?;
+    let args = one(alloc, constant(2))?;
+    calls.push(Called { proc: 1, args })?;
     to.push(at(Act::Par { calls }))?;
     to.push(at(Act::Fence {
         mode: Mode::Rel,
@@ -288,7 +191,7 @@ fn add_calls(alloc: Global, to: &mut List<Stmt>) -> Result<(), AllocError> {
 
 fn add_control(alloc: Global, to: &mut List<Stmt>) -> Result<(), AllocError> {
     let yes = one(alloc, at(Act::Print { e: constant(1) }))?;
-    let no = one(alloc, at(Act::Bank { slot: 2 }))?;
+    let no = one(alloc, at(Act::Print { e: variable(0) }))?;
     to.push(at(Act::If {
         cond: condition(),
         yes,
@@ -324,37 +227,28 @@ fn invariant(alloc: Global, n: i128) -> Result<Inv, AllocError> {
     })
 }
 
-fn procedure(
-    alloc: Global,
-    name: &str,
-    params: u32,
-    post: Asrt,
-    body: List<Stmt>,
-) -> Result<Proc, AllocError> {
-    let name = Text::from_str(alloc, name)?;
-    let banks = one(alloc, 2)?;
-    Ok(Proc {
-        name,
+// `main` and what it calls have three variables, the last of which is a bank.
+fn slots(params: u32) -> Slots {
+    Slots {
         params,
-        slots: 3,
-        banks,
-        pre: Asrt::Emp,
-        post,
-        body,
-        last: Span { from: 7, to: 8 },
-    })
+        all: 3,
+        banks: &[2],
+    }
 }
 
 fn main_procedure(alloc: Global) -> Result<Proc, AllocError> {
     let post = modalities(alloc)?;
     let body = body(alloc)?;
-    procedure(alloc, "main", 0, post, body)
+    procedure(alloc, "main", slots(0), Asrt::Emp, post, body)
 }
 
 // What `main` calls.
 fn child(alloc: Global) -> Result<Proc, AllocError> {
-    let post = Asrt::Fact { cond: Cond::Yes };
-    procedure(alloc, "child", 1, post, List::new(alloc))
+    let e = expression(alloc)?;
+    let post = Asrt::Fact {
+        cond: equal(e, constant(0)),
+    };
+    procedure(alloc, "child", slots(1), Asrt::Emp, post, List::new(alloc))
 }
 
 fn procedures(alloc: Global) -> Result<List<Proc>, AllocError> {

@@ -1,7 +1,0 @@
-use Rattle.std.proofs.Common.{◌≡◌, drop}
-use Rattle.std.specs.List.{list_all}
-use Rattle.fsl_core.specs.WellFormed.{proc_fits}
-use Rattle.fsl_core.proofs.well_formed.Given.procs_fit.Given as goal
-
-abbrev pub invariant-loop-proc : goal.invariant-loop-proc
-invariant-loop-proc l = list_all (proc_fits l.self) (drop l.proc-index l.proc-items) ≡ list_all (proc_fits l.self) l.self.procs
