@@ -111,11 +111,11 @@ plain : (invs : List Inv) (given : Given) (reads : Reads) → ((setting : Settin
     → ((setting : Setting) (resolver : Resolver) (flag : Bool) → asrt_fits invs (reads setting resolver).made flag ≡ true) → Fitting invs given false reads
 plain invs given reads grow fit = record { grows = grow; fits = λ has setting resolver flag may none. fit setting resolver flag }
 
-share_grows : (seen : Sight) (share : Option Share) → Grows (judged_share seen share)
+pub share_grows : (seen : Sight) (share : Option Share) → Grows (judged_share seen share)
 share_grows seen None faults none = none
 share_grows seen (Some share) faults none = number_grows seen share.amount faults none
 
-pattern_grows : (given : Given) (setting : Setting) (value : Pattern) (resolver : Resolver) → (pattern given setting value resolver).resolver.faults ≡ [] → resolver.faults ≡ []
+pub pattern_grows : (given : Given) (setting : Setting) (value : Pattern) (resolver : Resolver) → (pattern given setting value resolver).resolver.faults ≡ [] → resolver.faults ≡ []
 pattern_grows given setting (patterns.Any place) resolver none = none
 pattern_grows given setting (patterns.Binder mark name) resolver none = noted_grows resolver.faults _ none
 pattern_grows given setting (patterns.Value value) resolver none = number_grows (sight given setting.in_ensures resolver) value resolver.faults none
@@ -139,10 +139,10 @@ permission_fits invs given seen names location u faults has none same =
     instance_fits invs given seen names u (judged_number seen location faults) has
     (subst (λ (bytes : List ℕ). judged_use seen (signature_at bytes given.invariants u.name) u (judged_number seen location faults) ≡ []) same none)
 
-permission_grows : (seen : Sight) (signatures : Signatures) (location : Expression) (u : Use) → Grows (judged_permission seen signatures location u)
+pub permission_grows : (seen : Sight) (signatures : Signatures) (location : Expression) (u : Use) → Grows (judged_permission seen signatures location u)
 permission_grows seen signatures location u faults none = number_grows seen location faults (use_grows seen (signature_at seen.bytes signatures u.name) u _ none)
 
-acquire_numbered : (seen : Sight) (signatures : Signatures) (location : Expression) (u : Use) (part : Span) (value : ℕ) (excluded : Option Arguments) (faults : List Fault)
+pub acquire_numbered : (seen : Sight) (signatures : Signatures) (location : Expression) (u : Use) (part : Span) (value : ℕ) (excluded : Option Arguments) (faults : List Fault)
     → judged_acquire seen signatures location u part value excluded faults ≡ []
     → noted (occurrence.PartNumber part value (last_part_of (signature_at seen.bytes signatures u.name))) (judged_permission seen signatures location u faults) ≡ []
 acquire_numbered seen signatures location u part value excluded faults none = excluded_grows seen 0 (arguments_of excluded) _ none

@@ -1,7 +1,6 @@
 -- The faults of declarations and of lists of names only grow, and without faults there are as many slots and parts as
 -- were written.
-use Rattle.std.proofs.Common.{◌≡◌, ℕ, suc, ◌+◌, ◌<◌, false, List, [], ◌∷◌, length, nat_le, is_some, Option, refl, ap, arith, leb-false, lt-ltb}
-use Rattle.std.proofs.lemmas.Bool.{cond-true}
+use Rattle.std.proofs.Common.{◌≡◌, ℕ, suc, ◌+◌, false, List, [], ◌∷◌, length, nat_le, is_some, Option, refl, ap, arith}
 use Rattle.std.proofs.lemmas.List.{length-map}
 use Rattle.fsl_core.specs.Programs.{Program}
 use Rattle.fsl_tree.specs.declared.declaration.Declaration.{Declaration}
@@ -25,16 +24,13 @@ use Rattle.fsl_types.specs.Resolvers.{declared, fresh, one_more}
 use Rattle.fsl_types.proofs.AssertionsLemmas.{assertion_fits, clause_fits}
 use Rattle.fsl_types.proofs.StatementsLemmas.{block_fits}
 use Rattle.fsl_types.proofs.ExpressionsLemmas.{noted_grows, noted_keeps}
+use Rattle.fsl_types.proofs.ResolverLemmas.{next_number}
 
 -- ---- parameters
 
-parameters_grow : (bytes : List ℕ) (ps : List Parameter) (resolver : Resolver) → (with_parameters bytes ps resolver).faults ≡ [] → resolver.faults ≡ []
+pub parameters_grow : (bytes : List ℕ) (ps : List Parameter) (resolver : Resolver) → (with_parameters bytes ps resolver).faults ≡ [] → resolver.faults ≡ []
 parameters_grow bytes [] resolver none = none
 parameters_grow bytes (p ∷ ps) resolver none = noted_grows resolver.faults _ (parameters_grow bytes ps (with_parameter bytes p resolver) none)
-
--- below its limit a count isn't cut off
-pub next_number : (limit most n : ℕ) → nat_le limit n ≡ false → limit < most + 1 → one_more most n ≡ n + 1
-next_number limit most n below within = let small : n < limit = leb-false limit n below in cond-true _ _ _ (lt-ltb n most (omega (arith, small, within)))
 
 counted_next : (before one many n : ℕ) → many ≡ one + n → one ≡ before + 1 → many ≡ before + suc n
 counted_next before one many n all first = omega (arith, all, first)

@@ -243,7 +243,7 @@ argument_grows sight due.Number e faults none = expression_grows sight due.Numbe
 argument_grows sight due.Target e faults none = expression_grows sight due.Target e faults none
 argument_grows sight due.Any e faults none = expression_grows sight due.Any e faults none
 
-arguments_grow : (sight : Sight) (banks : List Bool) (es : List Expression) → Grows (judged_arguments sight banks es)
+pub arguments_grow : (sight : Sight) (banks : List Bool) (es : List Expression) → Grows (judged_arguments sight banks es)
 arguments_grow sight banks [] faults none = none
 arguments_grow sight banks (e ∷ es) faults none =
     argument_grows sight (first_due banks) e faults (arguments_grow sight (drop 1 banks) es (judged_argument sight (first_due banks) e faults) none)

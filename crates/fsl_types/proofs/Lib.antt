@@ -7,5 +7,11 @@ pub mod NumberingLemmas
 pub mod ProgramsLemmas
 pub mod ResolverLemmas
 pub mod RulesLemmas
+pub mod ScopedActs
+pub mod ScopedAssertions
+pub mod ScopedDeclarations
+pub mod ScopedExpressions
+pub mod ScopedNames
+pub mod ScopedStatements
 pub mod StatementsLemmas
 pub mod TableLemmas

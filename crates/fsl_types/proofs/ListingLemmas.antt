@@ -31,34 +31,13 @@ use Rattle.fsl_types.specs.Programs.{banks_among, declaration, declare_each, in_
 use Rattle.fsl_types.specs.Resolvers.{declared}
 use Rattle.fsl_types.proofs.AssertionsLemmas.{HasInvariants, IsInvariant, clause_fits}
 use Rattle.fsl_types.proofs.StatementsLemmas.{IsProcedure}
-use Rattle.fsl_types.proofs.ExpressionsLemmas.{noted_keeps}
-use Rattle.fsl_types.proofs.DeclarationsLemmas.{contract_known, declare_each_grows, invariant_known, known, known_slots, list_each_grows, listed_invariant_grows, listed_procedure_grows, next_number, parts_long, pre_known, procedure_known}
+use Rattle.fsl_types.proofs.ExpressionsLemmas.{Keeps, noted_keeps}
+use Rattle.fsl_types.proofs.ResolverLemmas.{next_number}
+use Rattle.fsl_types.proofs.ScopedDeclarations.{procedure_agrees}
+use Rattle.fsl_types.proofs.TableLemmas.{found_either, found_kept, found_new}
+use Rattle.fsl_types.proofs.DeclarationsLemmas.{contract_known, declare_each_grows, invariant_known, known, known_slots, list_each_grows, listed_invariant_grows, listed_procedure_grows, parts_long, pre_known, procedure_known}
 
--- ---- names and places
-
-found_last : (b : Bool) (v s : Signature) → cond b (Some v) None ≡ Some s → (b ≡ true) × (v ≡ s)
-found_last true v s is = (refl, cc)
-found_last false v s is = absurd cc
-
-found_first : {R : Type 0} (b : Bool) (v s : Signature) (rest others : Option Signature) → (rest ≡ Some s → (others ≡ Some s) ⊎ R)
-    → cond b (Some v) rest ≡ Some s → (cond b (Some v) others ≡ Some s) ⊎ R
-found_first true v s rest others behind is = inl is
-found_first false v s rest others behind is = behind is
-
-found_added : (test : List ℕ → Bool) (entries : Signatures) (key : List ℕ) (v s : Signature) → lookup test (entries ++ (key, v) ∷ []) ≡ Some s
-    → (lookup test entries ≡ Some s) ⊎ ((test key ≡ true) × (v ≡ s))
-found_added test [] key v s is = inr (found_last (test key) v s is)
-found_added test (e ∷ es) key v s is = found_first (test e.0) e.1 s (lookup test (es ++ (key, v) ∷ [])) (lookup test es) (found_added test es key v s) is
-
-found_if : (b : Bool) (test : List ℕ → Bool) (entries : Signatures) (key : List ℕ) (v s : Signature)
-    → lookup test (if b then entries else entries ++ (key, v) ∷ []) ≡ Some s → (lookup test entries ≡ Some s) ⊎ ((test key ≡ true) × (v ≡ s))
-found_if true test entries key v s is = inl is
-found_if false test entries key v s is = found_added test entries key v s is
-
--- what is found among names with one more was there before, or is the new one
-found_either : (name key : List ℕ) (v s : Signature) (entries : Signatures) → found name (with_name key v entries) ≡ Some s
-    → (found name entries ≡ Some s) ⊎ ((bytes_eq name key ≡ true) × (v ≡ s))
-found_either name key v s entries is = found_if (is_some (found key entries)) (bytes_eq name) entries key v s is
+-- ---- places
 
 stands_before : {X : Type 0} (xs ys : List X) (n : ℕ) (x : X) → slice_get xs n ≡ Some x → slice_get (xs ++ ys) n ≡ Some x
 stands_before [] ys n x is = absurd cc
@@ -74,6 +53,17 @@ one_longer xs x count next many more = let long = length-append xs (x ∷ []) in
 
 named_text : (name text : List ℕ) → name ≡ text → is_utf8 name ≡ true → (if is_utf8 text then text else []) ≡ name
 named_text name text same utf8 = ap (λ (b : Bool). if b then text else []) (ap is_utf8 (sym same) ∙ utf8) ∙ sym same
+
+-- what stands in a list with one more stood there before, or is the last
+stands_either : {X : Type 0} (xs : List X) (x : X) (n : ℕ) (y : X) → slice_get (xs ++ x ∷ []) n ≡ Some y → (slice_get xs n ≡ Some y) ⊎ ((n ≡ length xs) × (x ≡ y))
+stands_either [] x zero y is = inr (refl, cc)
+stands_either [] x (suc n) y is = absurd cc
+stands_either (z ∷ xs) x zero y is = inl is
+stands_either (z ∷ xs) x (suc n) y is = ⊎_elim (λ before. inl before) (λ last. inr (ap suc last.0, last.1)) (stands_either xs x n y is)
+
+named_if : (b : Bool) (name text : List ℕ) → (name ≡ [] → ⊥) → bytes_eq (if b then text else []) name ≡ true → bytes_eq name text ≡ true
+named_if true name text some is = (bytes_eq-Decides name text).1 (sym ((bytes_eq-Decides text name).0 is))
+named_if false name text some is = absurd (some (sym ((bytes_eq-Decides [] name).0 is)))
 
 -- ---- invariants
 
@@ -121,8 +111,13 @@ invariants_stand p given (d ∷ ds) listing so_far stand listed none =
 
 -- ---- procedures
 
+-- what has this name is found by it
+abbrev pub IsListed : Signatures → List Proc → List ℕ → Type 0
+IsListed names procs name = (n : ℕ) (proc : Proc) → slice_get procs n ≡ Some proc → bytes_eq proc.name name ≡ true → (s : Signature) × (found name names ≡ Some s) × (s.number ≡ n)
+
 pub record ProceduresStand (p : Program) (listing : Listing) (so_far : Resolved) : Type 0 where
   pub many : listing.count ≡ length so_far.procs
+  pub all : (name : List ℕ) → (name ≡ [] → ⊥) → IsListed listing.names so_far.procs name
   pub each : (name : List ℕ) (s : Signature) → found name listing.names ≡ Some s → IsProcedure p so_far.procs name s
 
 procedure_before : (p : Program) (procs : List Proc) (proc : Proc) (name : List ℕ) (s : Signature) → IsProcedure p procs name s → IsProcedure p (procs ++ proc ∷ []) name s
@@ -133,6 +128,7 @@ procedure_before p procs proc name s is = record {
   params = is.params;
   plain = is.plain;
   bare = is.bare;
+  agree = is.agree;
 }
 
 absent : {X : Type 0} (o : Option X) → is_none o ≡ true → o ≡ None
@@ -173,18 +169,34 @@ procedure_made p given q faults procs count name invs many none same = record {
   params = known_slots given q.parameters faults (procedure_known p given q faults none);
   plain = contract_plain p given q faults invs none;
   bare = procedure_bare p given q faults none;
+  agree = procedure_agrees given q faults none;
 }
+
+-- a procedure's name is the text that it is declared by, if it isn't empty
+named_so : (name text : List ℕ) → (name ≡ [] → ⊥) → bytes_eq (if is_utf8 text then text else []) name ≡ true → bytes_eq name text ≡ true
+named_so name text some is = named_if (is_utf8 text) name text some is
+
+one_more_listed : (name key : List ℕ) (v : Signature) (names : Signatures) (procs : List Proc) (made : Proc) → v.number ≡ length procs → is_some (found key names) ≡ false
+    → (bytes_eq made.name name ≡ true → bytes_eq name key ≡ true) → IsListed names procs name → IsListed (with_name key v names) (procs ++ made ∷ []) name
+one_more_listed name key v names procs made many new named all n proc at is =
+    ⊎_elim
+    (λ before. let old = all n proc before is in (old.0, found_kept name key v old.0 names old.1, old.2))
+    (λ last. (v, found_new name key v names new (named (ap (λ (q : Proc). bytes_eq q.name name) last.1 ∙ is)), many ∙ sym last.0))
+    (stands_either procs made n proc at)
 
 procedure_listed : (p : Program) (given : Given) → HasInvariants p.invs given → (d : Declaration) (listing : Listing) (so_far : Resolved)
     → ProceduresStand p listing so_far → (listed_procedure given.bytes d listing).faults ≡ [] → (declaration given d so_far).faults ≡ []
     → ProceduresStand p (listed_procedure given.bytes d listing) (declaration given d so_far)
-procedure_listed p given invs (declarations.Invariant i) listing so_far stand listed none = record { many = stand.many; each = stand.each }
+procedure_listed p given invs (declarations.Invariant i) listing so_far stand listed none = record { many = stand.many; all = stand.all; each = stand.each }
 procedure_listed p given invs (declarations.Predicate pred) listing so_far stand listed none = stand
 procedure_listed p given invs (declarations.Procedure q) listing so_far stand listed none =
     let made = (procedure given q so_far.faults).made in
     let keeps = noted_keeps (occurrence.Declared q.name (is_some (found (text_at given.bytes q.name) listing.names)) listing.count 4096) listing.faults listed in
     record {
       many = one_longer so_far.procs made listing.count _ stand.many (next_number 4096 4096 listing.count keeps.counted (omega arith));
+      all = λ name some.
+          one_more_listed name (text_at given.bytes q.name) (procedure_signature listing.count q) listing.names so_far.procs made stand.many keeps.once
+          (named_so name (text_at given.bytes q.name) some) (stand.all name some);
       each = λ name s is. ⊎_elim (λ before. procedure_before p so_far.procs made name s (stand.each name s before))
           (λ new. subst (IsProcedure p (so_far.procs ++ made ∷ []) name) new.1
           (procedure_made p given q so_far.faults so_far.procs listing.count name invs stand.many none new.0))

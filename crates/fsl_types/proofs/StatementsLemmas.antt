@@ -1,9 +1,9 @@
 -- What is made of a statement without faults fits the invariants and procedures that it uses, and its modes are those
 -- of its accesses.
-use Rattle.std.proofs.Common.{◌≡◌, ℕ, Bool, true, false, true≢false, ◌&&◌, List, [], ◌∷◌, Option, Some, None, map, length, slice_get, ◌==◌, refl, ap, sym, ◌∙◌, subst}
-use Rattle.std.proofs.lemmas.Bool.{and_from, and_parts, not-false}
+use Rattle.std.proofs.Common.{◌≡◌, ℕ, ◌+◌, Bool, true, false, true≢false, ◌&&◌, ◌||◌, nat_lt, ltb-false, le-leb, List, [], ◌∷◌, Option, Some, None, map, length, slice_get, ◌==◌, refl, ap, sym, ◌∙◌, subst}
+use Rattle.std.proofs.lemmas.Bool.{and_from, and_parts, not-false, or_parts}
 use Rattle.std.proofs.lemmas.List.{length-map}
-use Rattle.std.specs.List.{list_all}
+use Rattle.std.specs.List.{list_all, list_any}
 use Rattle.std.specs.Str.{is_utf8}
 use Rattle.fsl_base.specs.declared.span.Span.{Span}
 use Rattle.fsl_core.specs.declared.act.Act.{Act, map-Act}
@@ -18,7 +18,7 @@ use Rattle.fsl_core.specs.declared.expr.Expr.{Expr}
 use Rattle.fsl_core.specs.declared.declaration.Proc.{Proc}
 use Rattle.fsl_core.specs.Programs.{Program}
 use Rattle.fsl_core.specs.Straight.{is_emp}
-use Rattle.fsl_core.specs.WellFormed.{act_fits, act_step, asrt_fits, call_fits, child_fits, is_failure_mode, is_fence_mode, is_load_mode, is_store_mode, is_update_mode, proc_is_plain, proc_takes, stmt_fits}
+use Rattle.fsl_core.specs.WellFormed.{act_fits, act_step, asrt_fits, call_fits, child_fits, is_par_size, is_failure_mode, is_fence_mode, is_load_mode, is_store_mode, is_update_mode, proc_is_plain, proc_takes, stmt_fits}
 use Rattle.fsl_tree.specs.declared.expression.Arguments.{Arguments}
 use Rattle.fsl_tree.specs.declared.expression.Expression.{Expression}
 use Rattle.fsl_tree.specs.declared.expression.Use.{Use}
@@ -53,11 +53,16 @@ use Rattle.fsl_types.specs.Expressions.{Sight, arguments_of, fits, in_turn, judg
 use Rattle.fsl_types.specs.Faults.{has_mode}
 use Rattle.fsl_types.specs.Given.{Given}
 use Rattle.fsl_types.specs.Names.{Names, found, text_at}
-use Rattle.fsl_types.specs.Statements.{Inside, Runs, allocation_of, block, block_step, called, fence, in_fence, in_loop_invariant, is_modal, judged_allocation, judged_call, judged_mode, judged_return, judged_right_side, judged_step, judged_step_line, judged_steps, mode_of, otherwise, otherwise_step, release_mode, right_side_of, run_each, seen, statement, statement_step, updated}
+use Rattle.fsl_types.specs.Statements.{Inside, Runs, allocation_of, block, block_step, called, fence, in_fence, in_loop_invariant, is_modal, judged_allocation, judged_call, judged_mode, judged_parallel, judged_return, judged_right_side, judged_step, judged_step_line, judged_steps, mode_of, otherwise, otherwise_step, release_mode, right_side_of, run_each, seen, statement, statement_step, updated}
 use Rattle.fsl_types.proofs.AssertionsLemmas.{HasInvariants, assertion_fits, clause_fits, equal_numbers, instance_fits, layer_fits}
 use Rattle.fsl_types.proofs.ExpressionsLemmas.{Grows, Keeps, condition_grows, each_grows, noted_grows, noted_keeps, number_grows, use_grows, use_keeps}
 
 -- ---- procedures by name
+
+-- the parameters from a number on are banks where these say so
+abbrev pub Agree : List ℕ → ℕ → List Bool → Type 0
+Agree banks slot [] = Unit {0}
+Agree banks slot (b ∷ bs) = (list_any (λ (bank : ℕ). bank == slot) banks ≡ b) × Agree banks (slot + 1) bs
 
 -- the procedure of a signature, by its name
 pub record IsProcedure (p : Program) (procs : List Proc) (name : List ℕ) (s : Signature) : Type 0 where
@@ -67,6 +72,7 @@ pub record IsProcedure (p : Program) (procs : List Proc) (name : List ℕ) (s : 
   pub params : proc.params ≡ length s.banks
   pub plain : s.modal ≡ false → (asrt_fits p.invs proc.pre false && asrt_fits p.invs proc.post false) ≡ true
   pub bare : s.bare ≡ true → (proc.params == 0 && is_emp proc.pre) ≡ true
+  pub agree : Agree proc.banks 0 s.banks
 
 abbrev pub HasProcedures : Program → Given → Type 0
 HasProcedures p given = (name : List ℕ) (s : Signature) → found name given.procedures ≡ Some s → IsProcedure p p.procs name s
@@ -94,7 +100,7 @@ plain_found : (p : Program) (name : List ℕ) (used : Span) (arguments : Option 
 plain_found p name used arguments place None knows keeps child = absurd (true≢false keeps.known)
 plain_found p name used arguments place (Some s) knows keeps child = let is = knows s refl in ap (proc_is_plain p.invs) is.at ∙ is.plain child.unmodal
 
-call_grows : (given : Given) (sight : Sight) (call : ParallelCall) → Grows (judged_call given sight call)
+pub call_grows : (given : Given) (sight : Sight) (call : ParallelCall) → Grows (judged_call given sight call)
 call_grows given sight call faults none = noted_grows faults _ (use_grows sight (signature_at given.bytes given.procedures call.callee.name) call.callee _ none)
 
 called_fits : (p : Program) (given : Given) (sight : Sight) (names : Names) (call : ParallelCall) (faults : List Fault) → HasProcedures p given
@@ -111,6 +117,18 @@ children_fit p given sight names [] faults has none = refl
 children_fit p given sight names (call ∷ calls) faults has none =
     and_from _ _ (called_fits p given sight names call faults has (each_grows (judged_call given sight) (call_grows given sight) calls _ none))
     (children_fit p given sight names calls _ has none)
+
+-- 2 to 8 calls
+par_size : (n : ℕ) → (nat_lt n 2 || nat_lt 8 n) ≡ false → is_par_size n ≡ true
+par_size n counted =
+    let neither = or_parts (nat_lt n 2) (nat_lt 8 n) counted in
+    and_from _ _ (le-leb 2 n (ltb-false n 2 neither.0)) (le-leb n 8 (ltb-false 8 n neither.1))
+
+par_fits : (given : Given) (sight : Sight) (names : Names) (word : Span) (calls : List ParallelCall) (faults : List Fault) → judged_parallel given sight word calls faults ≡ []
+    → is_par_size (length (map (called given names) calls)) ≡ true
+par_fits given sight names word calls faults none =
+    let noted = each_grows (judged_call given sight) (call_grows given sight) calls _ none in
+    ap is_par_size (length-map calls (called given names)) ∙ par_size (length calls) (noted_keeps (occurrence.Parallel word (length calls)) faults noted).counted
 
 -- ---- modes
 
@@ -169,10 +187,10 @@ stmts_fit p (s ∷ ss) all =
 
 -- ---- right sides
 
-step_grows : (sight : Sight) (s : Step) → Grows (judged_step sight s)
+pub step_grows : (sight : Sight) (s : Step) → Grows (judged_step sight s)
 step_grows sight s faults none = noted_grows faults _ (number_grows sight s.amount _ none)
 
-steps_grow : (sight : Sight) (along : Option With) → Grows (judged_steps sight along)
+pub steps_grow : (sight : Sight) (along : Option With) → Grows (judged_steps sight along)
 steps_grow sight None faults none = none
 steps_grow sight (Some along) faults none = each_grows (judged_step_line sight) (λ line. step_grows sight line.step) along.steps faults none
 
@@ -191,7 +209,7 @@ allocation_fits p given sight names slot (allocations.NonAtomic word) faults has
 allocation_fits p given sight names slot (allocations.Shared cell invariant) faults has none =
     act_layer_fits p _ (Act-F.AllocAt slot _ _) (rolls-AllocAt _ _ _) (instance_fits p.invs given sight names invariant faults has none)
 
-right_grows : (given : Given) (sight : Sight) (r : RightSide) → Grows (judged_right_side given sight r)
+pub right_grows : (given : Given) (sight : Sight) (r : RightSide) → Grows (judged_right_side given sight r)
 right_grows given sight (right_sides.Value e) faults none = number_grows sight e faults none
 right_grows given sight (right_sides.Call word callee) faults none = use_grows sight (signature_at given.bytes given.procedures callee.name) callee faults none
 right_grows given sight (right_sides.Allocate word what) faults none = allocation_grows given sight what faults none
@@ -260,7 +278,7 @@ fence_fits p given (fences.Release word start held end) invs resolver none =
     act_layer_fits p _ (Act-F.Fence _ _) (rolls-Fence _ _)
     (and_from _ _ (fence_mode word) ((assertion_fits p.invs given held).fits invs in_fence resolver false (λ is. refl) none))
 
-return_grows : (sight : Sight) (in_loop : Bool) (word : Span) (e : Option Expression) → Grows (judged_return sight in_loop word e)
+pub return_grows : (sight : Sight) (in_loop : Bool) (word : Span) (e : Option Expression) → Grows (judged_return sight in_loop word e)
 return_grows sight in_loop word None faults none = noted_grows faults _ none
 return_grows sight in_loop word (Some e) faults none = noted_grows faults _ (number_grows sight e _ none)
 
@@ -295,7 +313,9 @@ statement_layer_fits p given (Statement-F.Parallel word start calls end) = recor
   grows = λ in_loop resolver none.
       noted_grows resolver.faults _ (each_grows (judged_call given (seen given resolver)) (call_grows given (seen given resolver)) calls _ none);
   fits = λ invs procs in_loop resolver none.
-      act_layer_fits p _ (Act-F.Par _) (rolls-Par _) (children_fit p given (seen given resolver) resolver.names calls _ procs none);
+      act_layer_fits p _ (Act-F.Par _) (rolls-Par _)
+      (and_from _ _ (par_fits given (seen given resolver) resolver.names word calls resolver.faults none)
+      (children_fit p given (seen given resolver) resolver.names calls _ procs none));
 }
 statement_layer_fits p given (Statement-F.Fence word what semicolon) = record {
   grows = λ in_loop resolver none. fence_grows p given what resolver none;
