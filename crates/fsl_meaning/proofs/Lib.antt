@@ -1,0 +1,9 @@
+pub mod Solver
+pub mod Terms
+pub mod Calculus
+pub mod Facts
+pub mod Deciding
+pub mod Heaps
+pub mod Owned
+pub mod Readings
+pub mod Joining

@@ -1,0 +1,5 @@
+pub mod Branches
+pub mod Deciding
+pub mod Heaps
+pub mod Means
+pub mod States
