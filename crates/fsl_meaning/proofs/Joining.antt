@@ -24,7 +24,7 @@ use Rattle.fsl_meaning.proofs.Heaps.{share_at}
 use Rattle.fsl_meaning.proofs.Owned.{stands_more, each_later, each_less, fits_less, IsOut, out_of, fits_back, lands_put, lands_add, line_less}
 use Rattle.fsl_meaning.proofs.Readings.{cell_read, tokens_read, authority_read}
 
-narrow_is : (t u : Combination) (b : Bool) → is_narrow t ≡ b → narrow t ≡ Some u → t ≡ u
+pub narrow_is : (t u : Combination) (b : Bool) → is_narrow t ≡ b → narrow t ≡ Some u → t ≡ u
 narrow_is t u true e h = let d : narrow t ≡ Some t = simp e in cc
 narrow_is t u false e h = let d : narrow t ≡ None = simp e in absurd (cc)
 

@@ -7,3 +7,4 @@ pub mod Heaps
 pub mod Owned
 pub mod Readings
 pub mod Joining
+pub mod Slots

@@ -1,6 +1,6 @@
 -- What terms and facts mean at a place of a path, where the first n symbols were made and v gives them numbers: what
 -- they come to however the symbols that come later are chosen.
-use Rattle.std.specs.Prelude.{◌≡◌, ℕ, suc, ◌<◌, ◌≤◌, List, [], ◌∷◌, Option, Some, None, ℤ, pos}
+use Rattle.std.specs.Prelude.{◌≡◌, ℕ, suc, ◌<◌, ◌≤◌, ◌-◌, List, [], ◌∷◌, ◌++◌, length, replicate, Option, Some, None, ℤ, pos}
 use Rattle.fsl_lin.specs.Combination.{Combination}
 use Rattle.fsl_lin.specs.Numbers.{Numbers, part}
 use Rattle.fsl_lin.specs.Values.{value_of, AllHold}
@@ -44,3 +44,7 @@ pub record HoldAll (n : ℕ) (v : Numbers) (fs : List Fact) : Type 0 where
 pub record Grows (n : ℕ) (v : Numbers) (m : ℕ) (w : Numbers) : Type 0 where
   pub more : n ≤ m
   pub agree : (s : ℕ) → s < n → w (suc s) ≡ v (suc s)
+
+-- numbers of variables, with 0 for those that aren't set yet
+abbrev pub padded_numbers : ℕ → List ℤ → List ℤ
+padded_numbers slots xs = xs ++ replicate (slots - length xs) (pos 0)
