@@ -6,6 +6,7 @@ use Rattle.fsl_core.specs.declared.expr.Part.{Part}
 use Rattle.fsl_core.specs.declared.expr.Cond.{Cond}
 use Rattle.fsl_core.specs.declared.expr.Cond.TheVariants as cond
 use Rattle.fsl_core.specs.declared.expr.Expr.TheOpen.{Expr-F}
+use Rattle.fsl_core.specs.declared.expr.Expr.TheViews.{roll-Expr}
 use Rattle.fsl_core.specs.declared.expr.Expr.TheFolds.{ind-Expr, fold-Part, map-Expr, fold-roll-Expr, fold_out-Part}
 use Rattle.fsl_core.specs.Values.{plus_or_minus}
 use Rattle.fsl_core.specs.logic.States.{Env}
@@ -148,7 +149,8 @@ reads_expr = ind-Expr Reads (λ p. Reads p.e)
     let q = fold-roll-Expr Number (Bool × Number) exact_step exact_part x in
     let l = subst (λ z. IsRead (expr_step (map-Expr Expr Part Expression (Bool × Expression) expr_of part_expr z)) (exact_step (map-Expr Expr Part Number (Bool × Number) exact part_exact z))) is
       (layer (λ e. e.0) (λ e. e.0) expr_of part_expr exact part_exact (λ e. e.1) (λ p. part_reads p.0 p.1) y) in
-    subst (λ z. IsRead z (exact _)) (sym p) (subst (λ z. IsRead _ z) (sym q) l))
+    subst (λ (z : Expression). IsRead z (exact (roll-Expr x))) (sym p)
+      (subst (λ (z : Number). IsRead (expr_step (map-Expr Expr Part Expression (Bool × Expression) expr_of part_expr x)) z) (sym q) l))
     (λ x y is. subst (λ l. Reads l.e) is y.e.1)
 
 pub judges_cond : (c : Cond) → IsJudged (cond_of expr_of c) (exact_cond c)

@@ -8,3 +8,4 @@ pub mod Owned
 pub mod Readings
 pub mod Joining
 pub mod Slots
+pub mod Kept
