@@ -22,6 +22,9 @@ pub value_asked : {A B : Type 0} (o : Option A) (f : A → Option B) (b : B) →
 value_asked (Some a) f b h = record { value = a; is = refl; then_is = h }
 value_asked None f b h = absurd (let d : None ≡ Some b = h in cc)
 
+pub value_is : {A B : Type 0} (o : Option A) (a : A) (f : A → Option B) → o ≡ Some a → with_value o f ≡ f a
+value_is o a f e = ap (λ (z : Option _). with_value z f) e
+
 pub if_asked : {X : Type 0} (test : Bool) (o : Option X) (x : X) → only_if test o ≡ Some x → (test ≡ true) × (o ≡ Some x)
 if_asked true o x h = (refl, h)
 if_asked false o x h = absurd (let d : None ≡ Some x = h in cc)

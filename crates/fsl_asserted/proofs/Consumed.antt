@@ -40,7 +40,7 @@ use Rattle.fsl_meaning.proofs.Slots.{all_get}
 use Rattle.fsl_asserted.specs.Exact.{exact, exact_all, exact_cond}
 use Rattle.fsl_asserted.specs.Needs.{Need, need, Asks, only_if, positive, natural, matched, points_asked, claim_asked, acq_asked, bank_number, tok_asked, auth_asked, both_asked, all_asked}
 use Rattle.fsl_asserted.specs.Fitting.{Gives, ConsumeFits}
-use Rattle.fsl_asserted.proofs.Asking.{HasNatural, natural_of, known_both, less, less_parts, rest_less, both_less, part_within, all_in_then}
+use Rattle.fsl_asserted.proofs.Asking.{HasNatural, natural_of, value_is, known_both, less, less_parts, rest_less, both_less, part_within, all_in_then}
 use Rattle.fsl_asserted.proofs.Exprs.{judges_cond}
 use Rattle.fsl_asserted.proofs.Terms.{reads_term, reads_terms, LeaveMeans, reads_leave, reads_wanted}
 use Rattle.fsl_asserted.proofs.Consuming.{tells_at_most, tells_equal, lands_consume_cell}
@@ -66,9 +66,6 @@ fact_gives g c mood rung h slots v s env xs fit all =
     lands_give env s (given [] xs (only_true (exact_cond c xs) (Some (need nothing [] xs)) e) tt fit all))
 
 -- ---- shares of cells
-
-value_is : {A B : Type 0} (o : Option A) (a : A) (f : A → Option B) → o ≡ Some a → with_value o f ≡ f a
-value_is o a f e = ap (λ (z : Option _). with_value z f) e
 
 pub points_give : (g : Ground) (at share : Expr) (p : Pat) → ConsumeFits g (points_consumed (expr_of at) (expr_of share) (pat_of expr_of p)) (points_asked g.truth at share p)
 points_give g at share p mood rung h slots v s env xs fit all =

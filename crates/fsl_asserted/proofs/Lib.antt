@@ -5,3 +5,5 @@ pub mod Producing
 pub mod Consuming
 pub mod Consumed
 pub mod Trees
+pub mod Stays
+pub mod Carried

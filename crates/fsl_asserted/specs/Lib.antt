@@ -1,3 +1,4 @@
+pub mod Carried
 pub mod Exact
 pub mod Needs
 pub mod Fitting
