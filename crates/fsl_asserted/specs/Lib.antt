@@ -2,3 +2,4 @@ pub mod Carried
 pub mod Exact
 pub mod Needs
 pub mod Fitting
+pub mod Laws
