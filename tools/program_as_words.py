@@ -1,9 +1,9 @@
 #!/usr/bin/env python3
-"""Writes a program out in the words of crates/fsl_core/specs/logic/Words.antt.
+"""Writes a program out in the words of crates/fsl_judged/specs/Words.antt.
 
     tools/program_as_words.py NAME FILE
 
-prints the definition NAME of the program in FILE, its text above it as a comment. The examples of specs/logic were
+prints the definition NAME of the program in FILE, its text above it as a comment. The examples of that crate were
 written so: a program there has slots, places and numbers that nobody should count by hand. The file has to be a
 program; nothing is checked but that its tokens fit the grammar.
 """

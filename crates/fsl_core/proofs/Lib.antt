@@ -1,8 +1,3 @@
 pub mod Distinct
 pub mod Blocks
-pub mod JudgedCells
-pub mod JudgedFences
-pub mod JudgedMessages
-pub mod JudgedUpdates
 pub mod Parts
-pub mod Quick

@@ -1,4 +1,5 @@
 pub mod Marks
+pub mod Modes
 pub mod Moves
 pub mod Programs
 pub mod Straight

@@ -16,12 +16,3 @@ pub mod Calls
 pub mod Slots
 pub mod Paths
 pub mod Verdicts
-pub mod Words
-pub mod ExampleCells
-pub mod JudgedCells
-pub mod ExampleMessages
-pub mod JudgedMessages
-pub mod ExampleFences
-pub mod JudgedFences
-pub mod ExampleUpdates
-pub mod JudgedUpdates

@@ -31,7 +31,7 @@ has_returned halted = inl halted_stays
 has_returned failed = inl failed_stays
 
 -- a thread that has returned shows no more events
-returned_rests : (p : Program) (g : Graph) (c last : Config) (n : ℕ) (es : List ℕ) (v : ℤ) → c ≡ returned v → Runs p g c n es last → (es ≡ []) × (last ≡ returned v)
+pub returned_rests : (p : Program) (g : Graph) (c last : Config) (n : ℕ) (es : List ℕ) (v : ℤ) → c ≡ returned v → Runs p g c n es last → (es ≡ []) × (last ≡ returned v)
 returned_rests p g c last n es v e stands = (refl, e)
 returned_rests p g c last n es v e (silent local r) = absurd (let k : need.Returned v ≡ need.Local = subst (λ (d : Config). need_of p d ≡ need.Local) e local in cc)
 returned_rests p g c last n es v e (shows {next = next} x i m s r) = absurd (

@@ -7,6 +7,7 @@ pub mod Sorted
 pub mod Forward
 pub mod Reading
 pub mod Returning
+pub mod Keeping
 pub mod Numbered
 pub mod Ended
 pub mod Acquiring
@@ -16,4 +17,8 @@ pub mod Every
 pub mod Checked
 pub mod Possible
 pub mod Lone
+pub mod Threads
+pub mod Joining
+pub mod Labels
+pub mod Determined
 pub mod Refused

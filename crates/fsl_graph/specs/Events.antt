@@ -1,39 +1,16 @@
 -- The events of a graph by their numbers, and what each does to the memory: what it reads, what it writes,
 -- and how it orders.
-use Rattle.std.specs.Prelude.{ℕ, ◌≡◌, Bool, true, false, slice_get, Option, Some, None, ℤ}
+use Rattle.std.specs.Prelude.{ℕ, ◌≡◌, slice_get, Option, Some, None, ℤ}
 use Rattle.fsl_core.specs.declared.label.Label.{Label}
 use Rattle.fsl_core.specs.declared.label.Label.TheVariants as label
 use Rattle.fsl_core.specs.declared.mode.Mode.{Mode}
-use Rattle.fsl_core.specs.declared.mode.Mode.TheVariants as mode
+pub use Rattle.fsl_core.specs.Modes.{is_atomic, acquires, releases}
 use Rattle.fsl_graph.specs.declared.event.Event.{Event}
 use Rattle.fsl_graph.specs.declared.graph.Graph.{Graph}
 
 -- event e of the graph is x
 abbrev pub Is : Graph → ℕ → Event → Type 0
 Is g e x = slice_get g.events e ≡ Some x
-
--- ---- memory orders (C11 7.17.3)
-
-abbrev pub is_atomic : Mode → Bool
-is_atomic mode.Na = false
-is_atomic mode.Rlx = true
-is_atomic mode.Acq = true
-is_atomic mode.Rel = true
-is_atomic mode.AcqRel = true
-
-abbrev pub acquires : Mode → Bool
-acquires mode.Na = false
-acquires mode.Rlx = false
-acquires mode.Acq = true
-acquires mode.Rel = false
-acquires mode.AcqRel = true
-
-abbrev pub releases : Mode → Bool
-releases mode.Na = false
-releases mode.Rlx = false
-releases mode.Acq = false
-releases mode.Rel = true
-releases mode.AcqRel = true
 
 -- ---- what a label reads and writes
 

@@ -4,7 +4,9 @@ pub mod Happens
 pub mod Places
 pub mod Consistent
 pub mod Execution
+pub mod Keeping
 pub mod Safe
+pub mod Threads
 pub mod Positions
 pub mod Orders
 pub mod Edges
@@ -12,5 +14,8 @@ pub mod Ends
 pub mod Reading
 pub mod Graphs
 pub mod Shapes
+pub mod Joining
+pub mod Labels
+pub mod Determined
 pub mod Lone
 pub mod Refused

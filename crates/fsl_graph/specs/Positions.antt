@@ -16,6 +16,7 @@ pub data Holder : Type 0 where
   Up : (thread : ℕ) → Holder
   Down : (thread : ℕ) → Holder
   Message : (write part : ℕ) → Holder
+  deriving Discrete as Holder-discrete
 
 -- a is b or happens before it
 abbrev pub Reaches : Graph → ℕ → ℕ → Type 0

@@ -15,7 +15,7 @@ use Rattle.fsl_graph.specs.declared.event.Event.{Event}
 use Rattle.fsl_graph.specs.declared.graph.Graph.{Graph}
 use Rattle.fsl_graph.specs.declared.graph.Thread.{Thread}
 use Rattle.fsl_graph.specs.Events.{Is}
-use Rattle.fsl_graph.specs.Execution.{Runs, stands, silent, shows, StartsChildren, AreStarted, IsStarted, reply_of, numbered_of, events_of, first_of}
+use Rattle.fsl_graph.specs.Execution.{Runs, stands, silent, shows, Answers, AreStarted, IsStarted, reply_of, numbered_of, events_of, first_of}
 use Rattle.fsl_graph.specs.Lone.{is_plain}
 use Rattle.fsl_machine.specs.Labels.{label_by, is_plain_need}
 use Rattle.fsl_machine.specs.States.{grown, lone_graph}
@@ -51,14 +51,14 @@ is_local t (need.Print v) h e = cc
 is_local t (need.End v) h e = cc
 is_local t _ h e = cc
 
-starts_none : (g : Graph) (n : Need) (x : Label) → is_plain_need n ≡ true → StartsChildren g n x
-starts_none g need.Local x h = tt
-starts_none g (need.Load mode.Na l) x h = tt
-starts_none g (need.Store mode.Na l v) x h = tt
-starts_none g (need.Alloc kind.Na) x h = tt
-starts_none g (need.Print v) x h = tt
-starts_none g (need.End v) x h = tt
-starts_none g _ x h = cc
+answers_none : (g : Graph) (n : Need) (x : Label) → is_plain_need n ≡ true → Answers g n x
+answers_none g need.Local x h = tt
+answers_none g (need.Load mode.Na l) x h = tt
+answers_none g (need.Store mode.Na l v) x h = tt
+answers_none g (need.Alloc kind.Na) x h = tt
+answers_none g (need.Print v) x h = tt
+answers_none g (need.End v) x h = tt
+answers_none g _ x h = cc
 
 -- ---- runs in a graph with more events
 
@@ -75,10 +75,12 @@ all_started_more : (m k : ℕ) (t u : Trace) (first : ℕ) (calls : List Started
 all_started_more m k t u first [] h = tt
 all_started_more m k t u first (call ∷ calls) h = (started_more m k t u first call h.0, all_started_more m k t u (suc first) calls h.1)
 
-starts_more : (m k : ℕ) (t u : Trace) (n : Need) (x : Label) → StartsChildren (lone_graph m t) n x → StartsChildren (lone_graph k u) n x
-starts_more m k t u (need.Fork calls) (label.Fork children) h = all_started_more m k t u (first_of children) calls h
-starts_more m k t u (need.Fork calls) _ h = tt
-starts_more m k t u _ x h = tt
+answers_more : (m k : ℕ) (t u : Trace) (n : Need) (x : Label) → Answers (lone_graph m t) n x → Answers (lone_graph k u) n x
+answers_more m k t u (need.Fork calls) (label.Fork children) h = all_started_more m k t u (first_of children) calls h
+answers_more m k t u (need.Fork calls) _ h = tt
+answers_more m k t u (need.Join children) (label.Join results) h = h
+answers_more m k t u (need.Join children) _ h = tt
+answers_more m k t u _ x h = tt
 
 runs_more : {p : Program} (m k : ℕ) (t u : Trace)
     → ((e : ℕ) (x : Event) → slice_get t.events e ≡ Some x → slice_get u.events e ≡ Some x)
@@ -86,7 +88,7 @@ runs_more : {p : Program} (m k : ℕ) (t u : Trace)
 runs_more m k t u more stands = stands
 runs_more m k t u more (silent local rest) = silent local (runs_more m k t u more rest)
 runs_more m k t u more (shows x is makes starts rest) =
-    shows x (more _ x is) makes (starts_more m k t u _ x.label starts) (runs_more m k t u more rest)
+    shows x (more _ x is) makes (answers_more m k t u _ x.label starts) (runs_more m k t u more rest)
 
 -- ---- runs with one more move
 
@@ -97,7 +99,7 @@ then_silent (silent local rest) h = silent local (then_silent rest h)
 then_silent (shows x is makes starts rest) h = shows x is makes starts (then_silent rest h)
 
 then_shows : {p : Program} {g : Graph} {c d : Config} {n : ℕ} {es : List ℕ} (next : Config) (e : ℕ) (x : Event) → Runs p g c n es d → Is g e x
-    → moved p d (reply_of x.label) ≡ showing x.label next → StartsChildren g (need_of p d) x.label → Runs p g c (suc n) (es ++ e ∷ []) next
+    → moved p d (reply_of x.label) ≡ showing x.label next → Answers g (need_of p d) x.label → Runs p g c (suc n) (es ++ e ∷ []) next
 then_shows next e x stands is makes starts = shows x is makes starts stands
 then_shows next e x (silent local rest) is makes starts = silent local (then_shows next e x rest is makes starts)
 then_shows next e x (shows y was made started rest) is makes starts = shows y was made started (then_shows next e x rest is makes starts)
@@ -152,7 +154,7 @@ one_move p c d e m t n (Some x) runs need_is plain label_is made config_is =
     let makes : moved p d (reply_of x) ≡ showing x e =
     ap (moved p d) shown.reply ∙ ap (λ (q : Config). showing_of q (moved p d (answer_of t n)).label) config_is ∙ ap (showing_of e) made in
     let grew = runs_more m (m + 1) t u (λ k y h. get_more t.events (event_of t x ∷ []) k y h) runs in
-    let starts : StartsChildren (lone_graph (m + 1) u) (need_of p d) x = subst (λ (q : Need). StartsChildren (lone_graph (m + 1) u) q x) need_is (starts_none (lone_graph (m + 1) u) n x plain) in
+    let starts : Answers (lone_graph (m + 1) u) (need_of p d) x = subst (λ (q : Need). Answers (lone_graph (m + 1) u) q x) need_is (answers_none (lone_graph (m + 1) u) n x plain) in
     subst (λ (es : List ℕ). Runs p (lone_graph (m + 1) u) c (m + 1) es e) (sym (events_more m (m + 1) t x))
     (subst (λ k. Runs p (lone_graph (m + 1) u) c k (events_of (lone_graph m t) 0 ++ length t.events ∷ []) e) (next_is m)
     (then_shows e (length t.events) (event_of t x) grew (get_last t.events (event_of t x)) makes starts))

@@ -64,10 +64,16 @@ join_tells g done e x results t d v c j i n a s =
       child = rw n.thread i;
     })))))))
 
-awaited : (results : List Ended) (k : ℕ) (r : Ended) → slice_get results k ≡ Some r → In r.thread (map thread_of results)
+-- a result is one of a thread that is waited for, and each such thread has one
+pub awaited : (results : List Ended) (k : ℕ) (r : Ended) → slice_get results k ≡ Some r → In r.thread (map thread_of results)
 awaited [] k r h = absurd (let f : None ≡ Some r = h in cc)
 awaited (q ∷ qs) zero r h = let f : Some q ≡ Some r = h in let e : r ≡ q = cc in inl (ap thread_of e)
 awaited (q ∷ qs) (suc k) r h = inr (awaited qs k r h)
+
+pub result_of : (results : List Ended) (t : ℕ) → In t (map thread_of results) → (k : ℕ) × (r : Ended) × (slice_get results k ≡ Some r) × (r.thread ≡ t)
+result_of [] t i = elim i [ ]
+result_of (q ∷ qs) t (inl e) = (0, q, refl, sym e)
+result_of (q ∷ qs) t (inr i) = let h = result_of qs t i in (suc h.0, h.1, h.2, h.3)
 
 pub await_tells : AwaitTells
 await_tells p g last ex done e x t v c w =

@@ -1,5 +1,5 @@
 -- The rules of allocations, loads, stores and frees.
-use Rattle.std.specs.Prelude.{ℕ, ◌+◌, Bool, true, false, List, [], ◌∷◌, ◌++◌, Some, None, pos, slice_set, slice_get, if◌then◌else◌}
+use Rattle.std.specs.Prelude.{ℕ, ◌+◌, Bool, true, false, List, [], ◌∷◌, ◌++◌, Option, Some, None, pos, slice_set, slice_get, if◌then◌else◌}
 use Rattle.fsl_core.specs.declared.chunk.Chunk.{Chunk}
 use Rattle.fsl_core.specs.declared.chunk.Chunk.TheVariants as chunk
 use Rattle.fsl_core.specs.declared.mode.Mode.{Mode}
@@ -7,10 +7,12 @@ use Rattle.fsl_core.specs.declared.mode.Mode.TheVariants as mode
 use Rattle.fsl_core.specs.declared.mode.Rung.{Rung}
 use Rattle.fsl_core.specs.declared.mode.Rung.TheVariants.{Plain, Up, Down}
 use Rattle.fsl_core.specs.declared.verdict.Kind.TheVariants as kind
-use Rattle.fsl_core.specs.logic.States.{Rule, Action, ◌>>=◌, ◌>>◌, give, done, look, change, demand_some, new_symbol, here, set}
+use Rattle.fsl_core.specs.Modes.{acquires, releases}
+use Rattle.fsl_core.specs.Values.{with_value}
+use Rattle.fsl_core.specs.logic.States.{State, Rule, Action, ◌>>=◌, ◌>>◌, give, done, look, change, demand_some, new_symbol, here, set}
 use Rattle.fsl_core.specs.logic.Terms.{Expression, term, terms}
 use Rattle.fsl_core.specs.logic.Deciding.{proves_equal, assume_at_most, decide_equal, each_side}
-use Rattle.fsl_core.specs.logic.Chunks.{Found, find_or, put, take, add, Cell, Leave, leave, Permission, cell_at, init_at, rel_at}
+use Rattle.fsl_core.specs.logic.Chunks.{Found, Reading, find_or, put, take, add, Cell, Leave, leave, Permission, when, cell_at, init_at, rel_at}
 use Rattle.fsl_core.specs.logic.Joining.{full, produce_init}
 use Rattle.fsl_core.specs.logic.Producing.{chosen, Instance}
 use Rattle.fsl_core.specs.logic.Consuming.{demand_equal}
@@ -20,16 +22,6 @@ use Rattle.fsl_lin.specs.Combination.{Combination, constant}
 use Rattle.fsl_lin.specs.declared.fact.Fact.{Fact}
 
 -- ---- modes
-
-abbrev pub acquires : Mode → Bool
-acquires mode.Acq = true
-acquires mode.AcqRel = true
-acquires _ = false
-
-abbrev pub releases : Mode → Bool
-releases mode.Rel = true
-releases mode.AcqRel = true
-releases _ = false
 
 -- where a read puts what it gains
 abbrev pub gaining : Mode → Rung
@@ -85,21 +77,24 @@ load_na slot at = do
   v ← demand_some kind.Uninit f.is.value
   set slot v
 
--- a permission and its place among the chunks
-pub record Placed : Type 0 where
-  pub place : ℕ
-  pub is : Permission
+-- a permission for a location
+abbrev pub permission_at : Combination → Reading Permission
+permission_at at facts (chunk.Acq a inv args part out) = when (proves_equal facts a at) (record { leave = leave a inv args; part = part; out = out })
+permission_at at facts _ = None
 
-abbrev pub placed : Bool → ℕ → Permission → List Placed → List Placed
-placed true place p rest = record { place = place; is = p } ∷ rest
-placed false place p rest = rest
+-- the place of a chunk that reads as something, in front of other places
+abbrev pub placed : {X : Type 0} → Option X → ℕ → List ℕ → List ℕ
+placed None place places = places
+placed (Some x) place places = place ∷ places
 
--- the permissions for a location, from a place on
-abbrev pub permissions : List Fact → Combination → ℕ → List Chunk → List Placed
+-- the places of the permissions for a location among chunks, the first of which stands at this place
+abbrev pub permissions : List Fact → Combination → ℕ → List Chunk → List ℕ
 permissions facts at place [] = []
-permissions facts at place (chunk.Acq a inv args part out ∷ cs) =
-    placed (proves_equal facts a at) place (record { leave = leave a inv args; part = part; out = out }) (permissions facts at (place + 1) cs)
-permissions facts at place (_ ∷ cs) = permissions facts at (place + 1) cs
+permissions facts at place (c ∷ cs) = placed (permission_at at facts c) place (permissions facts at (place + 1) cs)
+
+-- what stands at a place, where it is a permission for the location
+abbrev pub permission_in : Combination → ℕ → State → Option Permission
+permission_in at place s = with_value (slice_get s.chunks place) (permission_at at s.facts)
 
 -- whether a value is one of those that were read already; those behind it are then not decided
 abbrev pub is_excluded : Combination → List Combination → Rule Bool
@@ -110,28 +105,36 @@ is_excluded v (x ∷ xs) = do
   chosen (give true) (is_excluded v xs) same
 
 -- the value is excluded from now on, and its part of the invariant is gained
-abbrev pub gain : Setting → Rung → Combination → Placed → Bool → Action
-gain p rung v x true = done
-gain p rung v x false = do
-  change (λ s. record s { chunks = slice_set s.chunks x.place (chunk.Acq x.is.leave.at x.is.leave.inv x.is.leave.args x.is.part (x.is.out ++ v ∷ [])) })
-  produce_part rung (part_at p x.is.leave x.is.part v)
+abbrev pub gain : Setting → Rung → Combination → ℕ → Permission → Bool → Action
+gain p rung v place x true = done
+gain p rung v place x false = do
+  change (λ s. record s { chunks = slice_set s.chunks place (chunk.Acq x.leave.at x.leave.inv x.leave.args x.part (x.out ++ v ∷ [])) })
+  produce_part rung (part_at p x.leave x.part v)
 
-abbrev pub gain_each : Setting → Rung → Combination → List Placed → Action
-gain_each p rung v [] = done
-gain_each p rung v (x ∷ xs) = do
-  excluded ← is_excluded v x.is.out
-  gain p rung v x excluded
-  gain_each p rung v xs
+-- by a permission, which stands at this place; without one, nothing is gained
+abbrev pub gain_by : Setting → Rung → Combination → ℕ → Option Permission → Action
+gain_by p rung v place None = done
+gain_by p rung v place (Some x) = do
+  excluded ← is_excluded v x.out
+  gain p rung v place x excluded
 
--- an atomic load; the permissions are those of the location before it
+-- at each of these places, by what stands there when it is come to
+abbrev pub gain_each : Setting → Rung → Combination → Combination → List ℕ → Action
+gain_each p rung at v [] = done
+gain_each p rung at v (place ∷ places) = do
+  x ← look (permission_in at place)
+  gain_by p rung v place x
+  gain_each p rung at v places
+
+-- an atomic load; the places are those of the permissions for the location before it
 abbrev pub load_atomic : Setting → ℕ → Mode → Expression → Action
 load_atomic p slot m at = do
   env ← here
   a ← term at env
   find_or kind.Init (init_at Plain a)
   v ← new_symbol
-  xs ← look (λ s. permissions s.facts a 0 s.chunks)
-  gain_each p (gaining m) v xs
+  places ← look (λ s. permissions s.facts a 0 s.chunks)
+  gain_each p (gaining m) a v places
   set slot v
 
 abbrev pub load : Setting → ℕ → Mode → Expression → Action

@@ -7,11 +7,11 @@ use Rattle.fsl_core.specs.declared.mode.Mode.{Mode}
 use Rattle.fsl_core.specs.declared.mode.Rung.{Rung}
 use Rattle.fsl_core.specs.declared.mode.Rung.TheVariants.{Plain, Up, Down}
 use Rattle.fsl_core.specs.declared.verdict.Mood.TheVariants as mood
+use Rattle.fsl_core.specs.Modes.{acquires, releases}
 use Rattle.fsl_core.specs.logic.States.{goes, Rule, Action, ◌>>=◌, ◌>>◌, done, here}
 use Rattle.fsl_core.specs.logic.Chunks.{same_rung}
 use Rattle.fsl_core.specs.logic.Joining.{at_rung, produce_chunks}
 use Rattle.fsl_core.specs.logic.Assertions.{Assertion}
-use Rattle.fsl_core.specs.logic.Accesses.{acquires, releases}
 
 -- a chunk stands at this rung
 abbrev pub is_at : Rung → Chunk → Bool

@@ -120,15 +120,11 @@ produce_authority g n = do
   assume_counts g n cs
   add (chunk.Auth g n)
 
--- a chunk is produced by its kind
+-- a chunk that stands at a rung is produced by its kind; no other is moved from one rung to another
 abbrev pub produce_chunk : Chunk → Action
 produce_chunk (chunk.Points rung at share value) = produce_cell rung (record { at = at; share = share; value = value })
 produce_chunk (chunk.Init rung at) = produce_init rung at
-produce_chunk (chunk.Rel at inv args) = produce_rel (leave at inv args)
-produce_chunk (chunk.Acq at inv args part out) = add (chunk.Acq at inv args part out)
-produce_chunk (chunk.RmwAcq at inv args) = produce_rmw (leave at inv args)
-produce_chunk (chunk.Tok bank n) = produce_tokens bank n
-produce_chunk (chunk.Auth bank n) = produce_authority bank n
+produce_chunk _ = done
 
 abbrev pub produce_chunks : List Chunk → Action
 produce_chunks [] = done

@@ -7,6 +7,7 @@ use Rattle.fsl_core.specs.declared.mode.Mode.{Mode}
 use Rattle.fsl_core.specs.declared.mode.Rung.{Rung}
 use Rattle.fsl_core.specs.declared.mode.Rung.TheVariants.{Plain, Down, Msg}
 use Rattle.fsl_core.specs.declared.verdict.Kind.TheVariants as kind
+use Rattle.fsl_core.specs.Modes.{acquires}
 use Rattle.fsl_core.specs.logic.States.{State, Rule, Action, ◌>>=◌, ◌>>◌, give, done, look, new_symbol, here, set}
 use Rattle.fsl_core.specs.logic.Terms.{Expression, term, fitting}
 use Rattle.fsl_core.specs.logic.Deciding.{assume_at_most, decide_equal, each_side}
@@ -14,7 +15,7 @@ use Rattle.fsl_core.specs.logic.Chunks.{first, find_or, Leave, cell_at, init_at,
 use Rattle.fsl_core.specs.logic.Joining.{at_rung, produce_chunk}
 use Rattle.fsl_core.specs.logic.Producing.{chosen}
 use Rattle.fsl_core.specs.logic.Locations.{Setting, parts_at, produce_parts, pass_parts}
-use Rattle.fsl_core.specs.logic.Accesses.{acquires, giving}
+use Rattle.fsl_core.specs.logic.Accesses.{giving}
 use Rattle.fsl_core.specs.logic.Tokens.{TokenStep, token_steps}
 use Rattle.fsl_core.specs.logic.Fences.{take_all}
 use Rattle.fsl_core.specs.logic.Messages.{Held, untouched}
@@ -50,9 +51,10 @@ keep acquiring (h ∷ hs) = do
   produce_chunk (at_rung rung h.chunk)
   keep acquiring hs
 
--- the value o is read and replaced by `new`
+-- the value o is read and replaced by `new`; what stood at msg before, which is nothing between statements, goes
 abbrev pub replace : Setting → Mode → List TokenStep → Leaves → Combination → Combination → Action
 replace p m steps l o new = do
+  take_all Msg
   produce_parts Msg (parts_at p l.rmw o)
   token_steps steps
   cs ← take_all Msg

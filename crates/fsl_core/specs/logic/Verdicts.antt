@@ -7,15 +7,18 @@ use Rattle.fsl_core.specs.declared.verdict.Verdict.{Verdict}
 use Rattle.fsl_core.specs.Verdicts.{End, outcome_from, verdict_from}
 use Rattle.fsl_core.specs.logic.Paths.{ends_of}
 
--- the outcome of a procedure, by its number: its first failure, else the number of its paths; the 65537th path that
--- ends fails `paths` unless it fails by itself
+-- the outcome of a procedure, by its number and the ends of its paths: its first failure, else the number of its paths;
+-- the 65537th path that ends fails `paths` unless it fails by itself
+abbrev pub outcome_by : (Proc → List End) → ℕ → Proc → Outcome
+outcome_by ends number q = outcome_from number 0 (ends q)
+
 abbrev pub outcome_of : Program → ℕ → Proc → Outcome
-outcome_of p number q = outcome_from number 0 (ends_of p q)
+outcome_of p = outcome_by (ends_of p)
 
 -- the outcomes of procedures by the ends of their paths; the first procedure has this number
 abbrev pub outcomes : (Proc → List End) → ℕ → List Proc → List Outcome
 outcomes ends number [] = []
-outcomes ends number (q ∷ qs) = outcome_from number 0 (ends q) ∷ outcomes ends (number + 1) qs
+outcomes ends number (q ∷ qs) = outcome_by ends number q ∷ outcomes ends (number + 1) qs
 
 -- the failure of the first procedure that has one, else the number of procedures
 abbrev pub verdict_by : (Proc → List End) → List Proc → Verdict

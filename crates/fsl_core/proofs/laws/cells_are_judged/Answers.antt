@@ -1,5 +1,0 @@
-use Rattle.fsl_core.proofs.JudgedCells.{cells_are_judged}
-use Rattle.fsl_core.proofs.laws.cells_are_judged.Goals as goal
-
-pub returns : goal.returns
-returns c = cells_are_judged

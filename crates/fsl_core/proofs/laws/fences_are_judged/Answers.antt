@@ -1,5 +1,0 @@
-use Rattle.fsl_core.proofs.JudgedFences.{fences_are_judged}
-use Rattle.fsl_core.proofs.laws.fences_are_judged.Goals as goal
-
-pub returns : goal.returns
-returns c = fences_are_judged

@@ -1,5 +1,0 @@
-use Rattle.fsl_core.proofs.JudgedMessages.{messages_are_judged}
-use Rattle.fsl_core.proofs.laws.messages_are_judged.Goals as goal
-
-pub returns : goal.returns
-returns c = messages_are_judged

@@ -1,5 +1,0 @@
-use Rattle.fsl_core.proofs.JudgedUpdates.{updates_are_judged}
-use Rattle.fsl_core.proofs.laws.updates_are_judged.Goals as goal
-
-pub returns : goal.returns
-returns c = updates_are_judged

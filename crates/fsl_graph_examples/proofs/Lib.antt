@@ -1,0 +1,4 @@
+pub mod Testing
+pub mod Runs
+pub mod Counted
+pub mod Alone

@@ -1,0 +1,3 @@
+pub mod Executions
+pub mod Counted
+pub mod Alone

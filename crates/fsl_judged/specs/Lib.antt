@@ -1,0 +1,9 @@
+pub mod Words
+pub mod ExampleCells
+pub mod JudgedCells
+pub mod ExampleMessages
+pub mod JudgedMessages
+pub mod ExampleFences
+pub mod JudgedFences
+pub mod ExampleUpdates
+pub mod JudgedUpdates
