@@ -5,7 +5,7 @@ use Rattle.std.specs.List.{list_all, list_any}
 use Rattle.std.proofs.lemmas.Int.{ints}
 use Rattle.std.proofs.lemmas.Bool.{and_parts, and_from, or_cases}
 use Rattle.fsl_core.specs.Values.{with_value}
-use Rattle.fsl_meaning.specs.Heaps.{Key, Heap, some_of, Claim, Ground, AllKnown, all_in}
+use Rattle.fsl_meaning.specs.Heaps.{Key, Heap, some_of, less, Claim, Ground, AllKnown, all_in}
 use Rattle.fsl_meaning.proofs.Deciding.{equal, is_equal}
 use Rattle.fsl_meaning.proofs.Heaps.{some_self, some_less}
 use Rattle.fsl_asserted.specs.Needs.{Need, need, only_if, positive, natural}
@@ -78,10 +78,6 @@ known_both g [] ds k l = l
 known_both g (c ∷ cs) ds k l = (k.0, known_both g cs ds k.1 l)
 
 -- ---- pieces of a heap
-
--- h without n of a key
-abbrev pub less : Heap → Key → ℕ → Heap
-less h k n = λ q. h q - some_of k n q
 
 line_parts : (h x : ℕ) → x ≤ h → h ≡ (h - x) + x
 line_parts h x l = omega arith

@@ -25,7 +25,7 @@ use Rattle.fsl_lin.specs.Combination.{Combination, minus}
 use Rattle.fsl_lin.specs.Numbers.{Numbers}
 use Rattle.fsl_lin.specs.declared.fact.Fact.{Fact}
 use Rattle.fsl_meaning.specs.Means.{Means, EachMeans, AllMean, HoldAll}
-use Rattle.fsl_meaning.specs.Heaps.{Key, Key as key, Heap, Holds, nothing, some_of, Claim, Claim as claim, Ground, AllKnown, all_in}
+use Rattle.fsl_meaning.specs.Heaps.{Key, Key as key, Heap, Holds, nothing, some_of, less, Claim, Claim as claim, Ground, AllKnown, all_in}
 use Rattle.fsl_meaning.specs.States.{OwnsPermission, OwnsTokens, OwnsBank, KnowsInit, KnowsLeave, Stands, All, Fits}
 use Rattle.fsl_meaning.specs.Branches.{Lands}
 use Rattle.fsl_meaning.proofs.Terms.{means_more, means_as, means_minus, means_constant, all_more}
@@ -40,7 +40,7 @@ use Rattle.fsl_meaning.proofs.Slots.{all_get}
 use Rattle.fsl_asserted.specs.Exact.{exact, exact_all, exact_cond}
 use Rattle.fsl_asserted.specs.Needs.{Need, need, Asks, only_if, positive, natural, matched, points_asked, claim_asked, acq_asked, bank_number, tok_asked, auth_asked, both_asked, all_asked}
 use Rattle.fsl_asserted.specs.Fitting.{Gives, ConsumeFits}
-use Rattle.fsl_asserted.proofs.Asking.{HasNatural, natural_of, value_is, known_both, less, less_parts, rest_less, both_less, part_within, all_in_then}
+use Rattle.fsl_asserted.proofs.Asking.{HasNatural, natural_of, value_is, known_both, less_parts, rest_less, both_less, part_within, all_in_then}
 use Rattle.fsl_asserted.proofs.Exprs.{judges_cond}
 use Rattle.fsl_asserted.proofs.Terms.{reads_term, reads_terms, LeaveMeans, reads_leave, reads_wanted}
 use Rattle.fsl_asserted.proofs.Consuming.{tells_at_most, tells_equal, lands_consume_cell}

@@ -20,7 +20,7 @@ use Rattle.fsl_core.specs.logic.Consuming.{demand_at_most, demand_equal, rest_of
 use Rattle.fsl_lin.specs.Combination.{Combination, minus, constant}
 use Rattle.fsl_lin.specs.Numbers.{Numbers}
 use Rattle.fsl_meaning.specs.Means.{Means, AllMean, IsKnown, Grows}
-use Rattle.fsl_meaning.specs.Heaps.{Key, Key as key, Heap, Holds, Ground, some_of}
+use Rattle.fsl_meaning.specs.Heaps.{Key, Key as key, Heap, Holds, Ground, some_of, less}
 use Rattle.fsl_meaning.specs.States.{OwnsCell, Stands, Owning, All, Opened, Fits}
 use Rattle.fsl_meaning.specs.Branches.{Lands, Tells, Tells as tell}
 use Rattle.fsl_meaning.proofs.Terms.{means_more, means_as, means_minus, means_constant, known_more, all_more}
@@ -34,7 +34,7 @@ use Rattle.fsl_meaning.proofs.Joining.{tells_fitting}
 use Rattle.fsl_meaning.proofs.Slots.{all_set}
 use Rattle.fsl_asserted.specs.Exact.{exact}
 use Rattle.fsl_asserted.specs.Needs.{matched, only_if}
-use Rattle.fsl_asserted.proofs.Asking.{HasShare, share_of, less, rest_less, both_less, part_within}
+use Rattle.fsl_asserted.proofs.Asking.{HasShare, share_of, rest_less, both_less, part_within}
 use Rattle.fsl_asserted.proofs.Terms.{WantedMeans, wanted_more}
 
 -- ---- demands

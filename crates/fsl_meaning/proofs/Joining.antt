@@ -291,11 +291,7 @@ pub lands_chunk : {g : Ground} {slots : List ℤ} {h : Heap} {v : Numbers} {s : 
     → Fits slots (All g h) v s → Stands g s.next v c mine → Holds mine h more → IsBounded g.truth more → Lands s.next v (λ u t w. Fits slots (All g more) w t) (produce_chunk c s)
 lands_chunk (chunk.Points rung at share value) mine more fit stands holds bounds = lands_cell rung (record { at = at; share = share; value = value }) more fit stands holds bounds
 lands_chunk (chunk.Init rung at) mine more fit stands holds bounds = lands_init rung at mine more fit stands holds
-lands_chunk (chunk.Rel at inv args) mine more fit stands holds bounds = lands_rel (leave at inv args) mine more fit stands holds
-lands_chunk (chunk.Acq at inv args part out) mine more fit stands holds bounds = lands_add (chunk.Acq at inv args part out) mine more fit stands holds
-lands_chunk (chunk.RmwAcq at inv args) mine more fit stands holds bounds = lands_rmw (leave at inv args) mine more fit stands holds
-lands_chunk (chunk.Tok bank n) mine more fit stands holds bounds = lands_tokens bank n more fit stands holds bounds
-lands_chunk (chunk.Auth bank n) mine more fit stands holds bounds = lands_authority bank n more fit stands holds bounds
+lands_chunk {h = h} {s = s} c mine more fit stands holds bounds = lands_give tt s (fits_less more (λ k. line_less_of (mine k) (h k) (more k) (holds k)) fit)
 
 line_cells : (a b c d e f g h m : ℕ) → a ≤ e → b ≤ f → c ≤ g → d ≤ h → e + (f + (g + h)) ≤ m → a + (b + (c + d)) ≤ m
 line_cells a b c d e f g h m i j k l n = omega arith

@@ -1,5 +1,5 @@
 -- What is counted, what is so, and what is known for good at a point of an execution. Locations and banks are numbers.
-use Rattle.std.specs.Prelude.{◌≡◌, ℕ, ◌+◌, ◌≤◌, ◌==◌, ◌^◌, Bool, true, false, ◌&&◌, List, [], ◌∷◌, Option, ℤ, pos, ◌≤ℤ◌, if◌then◌else◌}
+use Rattle.std.specs.Prelude.{◌≡◌, ℕ, ◌+◌, ◌-◌, ◌≤◌, ◌==◌, ◌^◌, Bool, true, false, ◌&&◌, List, [], ◌∷◌, Option, ℤ, pos, ◌≤ℤ◌, if◌then◌else◌}
 use Rattle.std.specs.Ordering.{int_eq}
 use Rattle.std.specs.List.{list_all, list_any}
 use Rattle.fsl_core.specs.declared.mode.Rung.{Rung}
@@ -30,6 +30,10 @@ nothing k = 0
 -- n of one key
 abbrev pub some_of : Key → ℕ → Heap
 some_of key n k = if same_key key k then n else 0
+
+-- h without n of a key
+abbrev pub less : Heap → Key → ℕ → Heap
+less h k n = λ q. h q - some_of k n q
 
 -- h has room for two parts; what is left over may be dropped
 abbrev pub Holds : Heap → Heap → Heap → Type 0
