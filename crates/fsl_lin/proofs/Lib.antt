@@ -10,3 +10,4 @@ pub mod Rows
 pub mod Sizes
 pub mod Taken
 pub mod Terms
+pub mod Values

@@ -5,6 +5,7 @@ pub mod Numbers
 pub mod Rows
 pub mod Sign
 pub mod Sizes
+pub mod Solver
 pub mod Step
 pub mod Values
 pub mod Walks

@@ -1,7 +1,7 @@
 -- What is proved holds under every valuation that satisfies the facts, and absurd facts have none.
 use Rattle.std.proofs.Common.{◌≡◌, ℕ, zero, suc, Bool, true, false, List, [], ◌∷◌, map, Option, Some, None, ℤ, pos, ◌+ℤ◌, ◌-ℤ◌, ◌*ℤ◌, ◌≤ℤ◌, neg_ℤ, refl, ap, sym, subst, ◌∙◌, arith}
 use Rattle.std.specs.Ordering.{int_eq}
-use Rattle.std.proofs.Math.IntN.{*ℤ_comm, zero-*ℤ}
+use Rattle.std.proofs.Math.IntN.{zero-*ℤ}
 use Rattle.std.proofs.lemmas.Int.{ints}
 use Rattle.std.proofs.lemmas.Bool.{and_parts}
 use Rattle.fsl_lin.specs.declared.fact.Fact.{Fact}
@@ -10,36 +10,9 @@ use Rattle.fsl_lin.specs.Numbers.{Numbers, most, part, none, opposite, gapped, s
 use Rattle.fsl_lin.specs.Rows.{Row, taken, normal, pivot_below, turned, all_without, extended}
 use Rattle.fsl_lin.specs.Values.{value, value_of, AllHold, Satisfies}
 use Rattle.fsl_lin.specs.Facts.{rows, bounds, two_bounds, kept}
-use Rattle.fsl_lin.proofs.Ring.{distribute, distribute_minus, times_neg, times_one, associate}
+use Rattle.fsl_lin.proofs.Ring.{distribute_minus, times_neg, times_one}
+use Rattle.fsl_lin.proofs.Values.{value_plus, value_minus, value_times, value_scaled}
 use Rattle.fsl_pure.proofs.Proving.{equal}
-
-line_plus : (a b c d e f : ℤ) → e ≡ a +ℤ b → f ≡ c +ℤ d → e +ℤ f ≡ (a +ℤ c) +ℤ (b +ℤ d)
-line_plus a b c d e f h k = omega (arith, ints)
-
-line_minus : (a b c d e f : ℤ) → e ≡ a -ℤ b → f ≡ c -ℤ d → e +ℤ f ≡ (a +ℤ c) -ℤ (b +ℤ d)
-line_minus a b c d e f h k = omega (arith, ints)
-
-value_plus : (k : ℕ) (v f g : Numbers) → value k v (λ i. f i +ℤ g i) ≡ value k v f +ℤ value k v g
-value_plus zero v f g = refl
-value_plus (suc k) v f g =
-    line_plus (value k v f) (value k v g) (f k *ℤ v k) (g k *ℤ v k) _ _ (value_plus k v f g) (distribute (f k) (g k) (v k))
-
-value_minus : (k : ℕ) (v f g : Numbers) → value k v (λ i. f i -ℤ g i) ≡ value k v f -ℤ value k v g
-value_minus zero v f g = refl
-value_minus (suc k) v f g =
-    line_minus (value k v f) (value k v g) (f k *ℤ v k) (g k *ℤ v k) _ _ (value_minus k v f g) (distribute_minus (f k) (g k) (v k))
-
-line_times : (x y a b : ℤ) → x ≡ a → y ≡ b → x +ℤ y ≡ a +ℤ b
-line_times x y a b h k = omega (arith, ints)
-
-value_times : (k : ℕ) (v f : Numbers) (c : ℤ) → value k v (λ i. c *ℤ f i) ≡ value k v f *ℤ c
-value_times zero v f c = sym (zero-*ℤ c)
-value_times (suc k) v f c =
-    line_times _ _ (value k v f *ℤ c) ((f k *ℤ v k) *ℤ c) (value_times k v f c) (associate c (f k) (v k) ∙ *ℤ_comm c (f k *ℤ v k))
-    ∙ sym (distribute (value k v f) (f k *ℤ v k) c)
-
-value_scaled : (k : ℕ) (v f : Numbers) (c : ℤ) → value k v (λ i. f i *ℤ c) ≡ value k v f *ℤ c
-value_scaled k v f c = ap (value k v) (λ j i. *ℤ_comm (f i) c j) ∙ value_times k v f c
 
 line_neg : (a b x y : ℤ) → x ≡ neg_ℤ a → y ≡ neg_ℤ b → x +ℤ y ≡ neg_ℤ (a +ℤ b)
 line_neg a b x y h k = omega (arith, ints)

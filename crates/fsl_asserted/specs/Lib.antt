@@ -1,0 +1,5 @@
+pub mod Carried
+pub mod Exact
+pub mod Needs
+pub mod Fitting
+pub mod Laws

@@ -1,0 +1,5 @@
+pub mod Locals
+pub mod Banks
+pub mod Fences
+pub mod Calls
+pub mod Parts

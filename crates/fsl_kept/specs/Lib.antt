@@ -1,0 +1,5 @@
+pub mod Calls
+pub mod Changes
+pub mod Laws
+pub mod Parts
+pub mod Results

@@ -1,0 +1,11 @@
+pub mod Solver
+pub mod Terms
+pub mod Calculus
+pub mod Facts
+pub mod Deciding
+pub mod Heaps
+pub mod Owned
+pub mod Readings
+pub mod Joining
+pub mod Slots
+pub mod Kept
