@@ -27,7 +27,8 @@ run) cp /bin/true out/fslpp ;;
 esac
 %s
 """
-WORDS_OF_CASE = 12
+# How long an unproved build that is there may take to answer, in seconds.
+AGAIN = 12
 
 
 class Failure(Exception):
@@ -41,9 +42,10 @@ def want(holds, what, ran):
 
 
 def call(top, *words, **variables):
-    """Calls the script in a copy of the repository."""
+    """Calls the script in a copy of the repository; where another search path is given, by this Python."""
     how = {"cwd": top, "stdin": subprocess.DEVNULL, "capture_output": True}
-    return subprocess.run(["./fslpp", *words], env={**os.environ, **variables}, **how)
+    script = [sys.executable, "fslpp"] if variables else ["./fslpp"]
+    return subprocess.run([*script, *words], env={**os.environ, **variables}, **how)
 
 
 def copy_to(folder):
@@ -139,7 +141,7 @@ def check_unproved(room):
     answers_as_program(top, 1)
     began = time.monotonic()
     ran = call(top, "check", EXAMPLES[0][0])
-    want(b"unproved" in ran.stderr and time.monotonic() - began < WORDS_OF_CASE, "the unproved build again", ran)
+    want(b"unproved" in ran.stderr and time.monotonic() - began < AGAIN, "the unproved build again", ran)
 
 
 def main():

@@ -1,7 +1,7 @@
 #!/usr/bin/env python3
 """Writes the programs of examples/ as a table of tests.
 
-    tools/examples_as_tests.py > crates/fslpp/src/tests/examples.rt
+    tools/examples_as_tests.py > crates/test_fslpp/src/examples.rt
 
 The first line of each example names its answer, `// expect: ANSWER`. The test runs `check` on the text of each and
 wants this answer. A test reads no files, so the texts stand in it: write it anew when an example changes.
@@ -12,7 +12,7 @@ from pathlib import Path
 EXPECT = "// expect: "
 HEAD = """//! The programs of `examples`, each with the answer that its first line names. `tools/examples_as_tests.py` writes
 //! this file.
-use super::refusals::is_answered;
+use crate::refusals::is_answered;
 
 const EXAMPLES: [(&str, &str); %d] = [
 """
