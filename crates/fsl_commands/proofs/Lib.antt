@@ -1,0 +1,3 @@
+pub mod CheckLemmas
+pub mod LoadingLemmas
+pub mod RunLemmas

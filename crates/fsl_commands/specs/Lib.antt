@@ -1,0 +1,8 @@
+pub mod Answer
+pub mod Changes
+pub mod Check
+pub mod Command
+pub mod Loading
+pub mod Run
+pub mod Top
+pub mod Unread

@@ -1,4 +1,0 @@
-pub mod Answered
-pub mod Only
-pub mod Refusing
-pub mod Unread

@@ -1,8 +1,0 @@
-use Rattle.fslpp.proofs.Answered.{run_is, not_read_is}
-use Rattle.fslpp.proofs.run.answered.Goals as goal
-
-pub returns-in-Ok : goal.returns-in-Ok
-returns-in-Ok g c = run_is _ _ c.in-Ok.loaded.bytes c.in-Ok.loaded.program c.in-Ok.ensures.program c.judged.result c.judged.ensures
-
-pub returns-in-Err : goal.returns-in-Err
-returns-in-Err g c = not_read_is _ _ c.in-Err.unread c.in-Err.ensures.cause c.refused.result c.refused.ensures
