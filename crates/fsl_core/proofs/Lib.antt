@@ -6,4 +6,5 @@ pub mod JudgedMessages
 pub mod JudgedUpdates
 pub mod Parts
 pub mod Quick
+pub mod Seeing
 pub mod Sights

@@ -2,6 +2,7 @@ pub mod Marks
 pub mod Moves
 pub mod Programs
 pub mod Scopes
+pub mod Seen
 pub mod Straight
 pub mod Values
 pub mod Verdicts

@@ -1,6 +1,7 @@
 //! What every program keeps, and the rules at work: the verdicts that they give on small programs. Each call does
 //! nothing; its contract is the law.
 ghost use Rattle.std.specs.Prelude.{IsTrue};
+ghost use Rattle.fsl_core.specs.Seen.{ExpressionsAreSeen, ConditionsAreSeen, ArgumentsAreSeen};
 ghost use Rattle.fsl_core.specs.WellFormed.{is_well_formed};
 ghost use Rattle.fsl_core.specs.logic.JudgedCells.{CellsAreJudged};
 ghost use Rattle.fsl_core.specs.logic.JudgedFences.{FencesAreJudged};
@@ -35,3 +36,11 @@ pub fn programs_are_well_formed(p: &Program)
 {
     p.kept()
 }
+
+/// Where two environments agree on the numbers that are visible, what reads these alone has one value: expressions,
+/// conditions, and arguments against their parameters.
+pub fn what_is_seen_decides()
+    ensures expressions { ExpressionsAreSeen }
+    ensures conditions { ConditionsAreSeen }
+    ensures arguments { ArgumentsAreSeen }
+{}
