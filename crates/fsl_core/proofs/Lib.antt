@@ -1,3 +1,4 @@
 pub mod Distinct
 pub mod Blocks
+pub mod Seeing
 pub mod Sights

@@ -3,6 +3,7 @@ pub mod Modes
 pub mod Moves
 pub mod Programs
 pub mod Scopes
+pub mod Seen
 pub mod Straight
 pub mod Values
 pub mod Verdicts

@@ -1,7 +1,7 @@
 -- Scopes: which variables are visible at each statement and assertion, each as a number or as a bank, and what each of
 -- them declares and sets. A block's declarations end with it, and so do the binders of an arm, a modality, a part of an
 -- invariant, a fence and a loop's invariant. Parameters, banks and binders are never set. Code reads no bank.
-use Rattle.std.specs.Prelude.{ℕ, zero, suc, ◌+◌, if◌then◌else◌, Bool, true, false, ◌&&◌, ◌||◌, not, List, [], ◌∷◌, length, map, replicate, Option, Some, None, ℤ, ◌≡◌, ◌==◌, nat_lt, nat_le, pos, get_or, slice_get, slice_set}
+use Rattle.std.specs.Prelude.{ℕ, zero, suc, ◌+◌, if◌then◌else◌, Bool, true, false, ◌&&◌, ◌||◌, not, List, [], ◌∷◌, length, map, replicate, Option, Some, None, ℤ, ◌≡◌, ◌==◌, nat_lt, nat_le, get_or, slice_get, slice_set}
 use Rattle.std.specs.List.{list_all, list_any}
 use Rattle.fsl_core.specs.declared.act.Act.{Act}
 use Rattle.fsl_core.specs.declared.act.Act.TheOpen.{Act-F, Stmt-F}
@@ -60,9 +60,9 @@ sight_at scope slot = get_or scope.sights slot sight.Kept
 abbrev pub with_sight : ℕ → Sight → Scope → Scope
 with_sight slot s scope = record scope { sights = slice_set scope.sights slot s }
 
--- two environments have the same numbers of what is visible as numbers
+-- two environments agree on the numbers that are visible
 abbrev pub Sees : Scope → List ℤ → List ℤ → Type 0
-Sees scope env slots = (slot : ℕ) → is_number (sight_at scope slot) ≡ true → get_or env slot (pos 0) ≡ get_or slots slot (pos 0)
+Sees scope env slots = (slot : ℕ) → is_number (sight_at scope slot) ≡ true → slice_get env slot ≡ slice_get slots slot
 
 abbrev pub in_loop : Scope → Scope
 in_loop scope = record scope { in_loop = true }
