@@ -166,10 +166,18 @@ fn act_fits(procs: &[Proc], act: &Act, scope: &mut Scope) -> bool
             sets(*slot, fits, scope)
         }
         Act::Add {
-            slot, at, e, steps, ..
+            slot,
+            at,
+            e,
+            steps,
+            ..
         } => sets(*slot, scope.update_reads(at, e, steps.as_slice()), scope),
         Act::Swap {
-            slot, at, e, steps, ..
+            slot,
+            at,
+            e,
+            steps,
+            ..
         } => sets(*slot, scope.update_reads(at, e, steps.as_slice()), scope),
         Act::Call { slot, proc, args } => {
             let fits = passes(procs, scope, *proc, args.as_slice());

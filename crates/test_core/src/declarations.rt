@@ -27,39 +27,220 @@ type Invariant = (&'static str, u32, u32, &'static [Atom], bool);
 
 /// Procedures beside a `main`.
 const CONTRACTS: [Contract; 28] = [
-    ("a parameter is read", (1, 1, &[]), &[Is(0)], &[Is(0)], &[Print(0)], true),
-    ("a parameter is set", (1, 1, &[]), &[], &[], &[Set(0)], false),
-    ("a binder is seen in the contract", (0, 2, &[]), &[Binds(0), Is(0)], &[Is(0)], &[Set(1), Print(1)], true),
-    ("it is read in the body", (0, 2, &[]), &[Binds(0)], &[], &[Print(0)], false),
-    ("it is set in the body", (0, 2, &[]), &[Binds(0)], &[], &[Set(0)], false),
-    ("it is bound twice", (0, 2, &[]), &[Binds(0), Binds(0)], &[], &[], false),
-    ("it is bound again in ensures", (0, 2, &[]), &[Binds(0)], &[Binds(0)], &[], false),
-    ("it is read in front", (0, 2, &[]), &[Is(0), Binds(0)], &[], &[], false),
-    ("two binders", (0, 2, &[]), &[Binds(0), Binds(1)], &[Is(1)], &[], true),
-    ("a parameter is bound", (1, 2, &[]), &[Binds(0)], &[], &[], false),
-    ("a binder of ensures", (0, 2, &[]), &[], &[Binds(0), Is(0)], &[], true),
-    ("it is read in the body", (0, 2, &[]), &[], &[Binds(0)], &[Print(0)], false),
+    (
+        "a parameter is read",
+        (1, 1, &[]),
+        &[Is(0)],
+        &[Is(0)],
+        &[Print(0)],
+        true,
+    ),
+    (
+        "a parameter is set",
+        (1, 1, &[]),
+        &[],
+        &[],
+        &[Set(0)],
+        false,
+    ),
+    (
+        "a binder is seen in the contract",
+        (0, 2, &[]),
+        &[Binds(0), Is(0)],
+        &[Is(0)],
+        &[Set(1), Print(1)],
+        true,
+    ),
+    (
+        "it is read in the body",
+        (0, 2, &[]),
+        &[Binds(0)],
+        &[],
+        &[Print(0)],
+        false,
+    ),
+    (
+        "it is set in the body",
+        (0, 2, &[]),
+        &[Binds(0)],
+        &[],
+        &[Set(0)],
+        false,
+    ),
+    (
+        "it is bound twice",
+        (0, 2, &[]),
+        &[Binds(0), Binds(0)],
+        &[],
+        &[],
+        false,
+    ),
+    (
+        "it is bound again in ensures",
+        (0, 2, &[]),
+        &[Binds(0)],
+        &[Binds(0)],
+        &[],
+        false,
+    ),
+    (
+        "it is read in front",
+        (0, 2, &[]),
+        &[Is(0), Binds(0)],
+        &[],
+        &[],
+        false,
+    ),
+    (
+        "two binders",
+        (0, 2, &[]),
+        &[Binds(0), Binds(1)],
+        &[Is(1)],
+        &[],
+        true,
+    ),
+    (
+        "a parameter is bound",
+        (1, 2, &[]),
+        &[Binds(0)],
+        &[],
+        &[],
+        false,
+    ),
+    (
+        "a binder of ensures",
+        (0, 2, &[]),
+        &[],
+        &[Binds(0), Is(0)],
+        &[],
+        true,
+    ),
+    (
+        "it is read in the body",
+        (0, 2, &[]),
+        &[],
+        &[Binds(0)],
+        &[Print(0)],
+        false,
+    ),
     ("a binder of an arm", (0, 2, &[]), &[Arm(0)], &[], &[], true),
-    ("it is read behind the arm", (0, 2, &[]), &[Arm(0), Is(0)], &[], &[], false),
-    ("it is read in ensures", (0, 2, &[]), &[Arm(0)], &[Is(0)], &[], false),
-    ("a binder of a modality", (0, 2, &[]), &[Up(0)], &[], &[], true),
-    ("it is read behind the modality", (0, 2, &[]), &[Up(0), Is(0)], &[], &[], false),
-    ("the result in ensures", (0, 0, &[]), &[], &[Atom::Outcome], &[], true),
-    ("the result in requires", (0, 0, &[]), &[Atom::Outcome], &[], &[], false),
-    ("tokens of a bank", (1, 1, &[0]), &[Tokens(0)], &[Tokens(0)], &[Mint(0)], true),
-    ("tokens of a number", (1, 1, &[]), &[Tokens(0)], &[], &[], false),
-    ("a bank is compared", (1, 1, &[0]), &[Is(0)], &[], &[], false),
-    ("a bank is printed", (1, 1, &[0]), &[], &[], &[Print(0)], false),
+    (
+        "it is read behind the arm",
+        (0, 2, &[]),
+        &[Arm(0), Is(0)],
+        &[],
+        &[],
+        false,
+    ),
+    (
+        "it is read in ensures",
+        (0, 2, &[]),
+        &[Arm(0)],
+        &[Is(0)],
+        &[],
+        false,
+    ),
+    (
+        "a binder of a modality",
+        (0, 2, &[]),
+        &[Up(0)],
+        &[],
+        &[],
+        true,
+    ),
+    (
+        "it is read behind the modality",
+        (0, 2, &[]),
+        &[Up(0), Is(0)],
+        &[],
+        &[],
+        false,
+    ),
+    (
+        "the result in ensures",
+        (0, 0, &[]),
+        &[],
+        &[Atom::Outcome],
+        &[],
+        true,
+    ),
+    (
+        "the result in requires",
+        (0, 0, &[]),
+        &[Atom::Outcome],
+        &[],
+        &[],
+        false,
+    ),
+    (
+        "tokens of a bank",
+        (1, 1, &[0]),
+        &[Tokens(0)],
+        &[Tokens(0)],
+        &[Mint(0)],
+        true,
+    ),
+    (
+        "tokens of a number",
+        (1, 1, &[]),
+        &[Tokens(0)],
+        &[],
+        &[],
+        false,
+    ),
+    (
+        "a bank is compared",
+        (1, 1, &[0]),
+        &[Is(0)],
+        &[],
+        &[],
+        false,
+    ),
+    (
+        "a bank is printed",
+        (1, 1, &[0]),
+        &[],
+        &[],
+        &[Print(0)],
+        false,
+    ),
     ("a bank is set", (1, 1, &[0]), &[], &[], &[Set(0)], false),
-    ("more parameters than variables", (2, 1, &[]), &[], &[], &[], false),
-    ("more banks than variables", (1, 1, &[0, 0]), &[], &[], &[], false),
-    ("as many variables as may be", (1, 256, &[]), &[], &[], &[Set(255)], true),
+    (
+        "more parameters than variables",
+        (2, 1, &[]),
+        &[],
+        &[],
+        &[],
+        false,
+    ),
+    (
+        "more banks than variables",
+        (1, 1, &[0, 0]),
+        &[],
+        &[],
+        &[],
+        false,
+    ),
+    (
+        "as many variables as may be",
+        (1, 256, &[]),
+        &[],
+        &[],
+        &[Set(255)],
+        true,
+    ),
     ("one variable more", (1, 257, &[]), &[], &[], &[], false),
 ];
 
 /// Invariants beside a `main`.
 const INVARIANTS: [Invariant; 11] = [
-    ("a parameter and the value are read", 1, 2, &[Is(0), Is(1)], true),
+    (
+        "a parameter and the value are read",
+        1,
+        2,
+        &[Is(0), Is(1)],
+        true,
+    ),
     ("a parameter has tokens", 1, 2, &[Tokens(0)], true),
     ("the value has tokens", 1, 2, &[Tokens(1)], false),
     ("the value is bound", 1, 2, &[Binds(1)], false),
@@ -84,7 +265,11 @@ const MAINS: [(&[u32], bool); 6] = [
 
 /// A `main` that does nothing.
 fn idle(alloc: Global, params: u32) -> Result<Proc, AllocError> {
-    let slots = Slots { params, all: params, banks: &[] };
+    let slots = Slots {
+        params,
+        all: params,
+        banks: &[],
+    };
     plain(alloc, "main", slots, List::new(alloc))
 }
 
@@ -137,7 +322,11 @@ fn are_mains(alloc: Global, params: &[u32]) -> Result<bool, AllocError> {
 fn contracts_are_scoped(rt: HostRuntime) -> Result<(), Fail> {
     for (says, (params, all, banks), pre, post, lines, wanted) in CONTRACTS {
         let slots = Slots { params, all, banks };
-        assert_eq!(rt; is_contract(rt.alloc(), slots, pre, post, lines)?, wanted, "{says}");
+        assert_eq!(rt;
+            is_contract(rt.alloc(), slots, pre, post, lines)?,
+            wanted,
+            "{says}"
+        );
     }
     Ok(())
 }
