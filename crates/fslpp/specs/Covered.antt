@@ -2,10 +2,10 @@
 use Rattle.std.specs.Prelude.{Bool}
 use Rattle.fsl_core.specs.Programs.{Program}
 use Rattle.fsl_core.specs.Straight.{is_straight}
-use Rattle.fsl_flow.specs.Built.{is_built}
+use Rattle.fsl_flow.specs.Supported.{is_supported}
 use Rattle.fslpp.specs.declared.command.Command.{Command}
 use Rattle.fslpp.specs.declared.command.Command.TheVariants.{Check, Run}
 
 abbrev pub covers : Command → Program → Bool
-covers Check p = is_built p
+covers Check p = is_supported p
 covers Run p = is_straight p

@@ -1,6 +1,6 @@
 //! The commands of the program, and the top call that chooses one by the words.
 ghost use Rattle.std.specs.Prelude.{◌≡◌, ◌≤◌, codes, length, map, option_map, IfOk, IsTrue};
-ghost use Rattle.fsl_flow.specs.Built.{is_built};
+ghost use Rattle.fsl_flow.specs.Supported.{is_supported};
 ghost use Rattle.fslpp.specs.Answers.{IsAnswered, IsChecked, IsSaid, answer, named, verdict_answer, verdict_status};
 ghost use Rattle.fslpp.specs.Texts.{usage};
 
@@ -43,7 +43,7 @@ fn judged<R: Threads + Sync, G: Gate>(
     workers: u32,
     gate: &G,
 ) -> Result<Answer, AllocError>
-    requires covered { IsTrue (is_built loaded.now.program) }
+    requires covered { IsTrue (is_supported loaded.now.program) }
     requires within { length loaded.now.bytes ≤ 1048576 }
     requires some { 1 ≤ workers }
     requires few { workers ≤ 64 }

@@ -1,13 +1,13 @@
 use Rattle.std.proofs.Common.{◌≡◌}
 use Rattle.fsl_core.specs.logic.Verdicts.{verdict_of}
-use Rattle.fsl_flow.proofs.Straight.{built}
+use Rattle.fsl_flow.proofs.SupportedStraight.{supported}
 use Rattle.fslpp.specs.Answers.{verdict_status}
 use Rattle.fslpp.proofs.Answered.{runs_so}
 use Rattle.fslpp.proofs.run.judged.Goals as goal
 
 -- the paths of a straight program are followed
-pub judge-requires-clause-covered : goal.judge-requires-clause-covered
-judge-requires-clause-covered g c κs within = built c.args.loaded.program c.requires.covered
+pub judge-requires-clause-supported : goal.judge-requires-clause-supported
+judge-requires-clause-supported g c κs within = supported c.args.loaded.program c.requires.covered
 
 pub returns-then-status-eq0 : goal.returns-then-status-eq0
 returns-then-status-eq0 g c =
