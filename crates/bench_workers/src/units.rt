@@ -2,12 +2,12 @@
 ghost use Rattle.std.specs.Prelude.{◌≡◌, ◌≤◌, ◌<◌, Some, length, slice_get, option_map, replicate};
 ghost use Rattle.fsl_core.specs.declared.verdict.Outcome.TheVariants.{Derived};
 ghost use Rattle.fsl_core.specs.logic.Verdicts.{outcome_of};
-ghost use Rattle.fsl_sound.specs.Covered.{IsCovered};
+ghost use Rattle.fsl_sound.specs.Supported.{IsSupported};
 
 use fsl_base::OpenGate;
 use fsl_check::{Work, check_all};
 use fsl_core::{Outcome, Program, Verdict};
-use fsl_flow::{built, outcome};
+use fsl_flow::{is_supported, outcome};
 use std::alloc::{AllocError, Global};
 use std::thread::Threads;
 
@@ -17,7 +17,7 @@ struct Repeated<'a> {
     program: &'a Program,
     units: u32,
     known: Outcome,
-    ghost covered: { IsCovered program.now },
+    ghost supported: { IsSupported program.now },
     ghost some: { 0 < length program.now.procs },
     ghost known_so: { option_map (outcome_of program.now 0) (slice_get program.now.procs 0) ≡ Some known },
 }
@@ -62,7 +62,7 @@ pub fn judged<R: Threads + Sync>(
 ) -> Result<Verdict, AllocError>
     requires { (1 ≤ workers) × (workers ≤ 64) }
 {
-    if !built(program) || program.procs().is_empty() {
+    if !is_supported(program) || program.procs().is_empty() {
         return Err(AllocError);
     }
     let known = outcome(alloc, program, 0)?;

@@ -1,7 +1,8 @@
--- Rules that keep the chunks, so that a chunk keeps its number on the way; and rules with one branch at most.
+-- Rules that keep the chunks, so that a chunk keeps its number on the way; and answers of calls. They are no file's of
+-- `src/` alone.
 use Rattle.std.proofs.Common.{◌≡◌, ℕ, Bool, true, false, [], ◌∷◌, ◌++◌, Option, Some, None, Result, Ok, Err, IfOk, ℤ, pos, refl, sym, ap, subst, ◌∙◌, append-nil}
 use Rattle.fsl_asrt.specs.Cells.{IsPoints}
-use Rattle.fsl_chunk.specs.Branches.{branches}
+use Rattle.fsl_chunk.specs.Went.{branches}
 use Rattle.fsl_chunk.specs.declared.went.Went.{Went}
 use Rattle.fsl_core.specs.declared.mode.Rung.{Rung}
 use Rattle.fsl_core.specs.declared.verdict.Kind.{Kind}
@@ -84,17 +85,6 @@ pub goes_kept : {X : Type 0} (s : State) (bs : Branches X) (x : X) (t : State) �
 goes_kept {X = X} s bs x t k h =
     let l : AreKept s (goes x t ∷ []) = subst (λ (cs : Branches X). AreKept s cs) (sym h) k in
     l.0
-
--- ---- an action with one branch at most, and what follows
-
-pub then_goes : {Y : Type 0} (bs : Branches (Unit {0})) (rule : Rule Y) (t : State) → goes tt t ∷ [] ≡ bs → followed bs (λ _. rule) ≡ rule t
-then_goes bs rule t h = rw (← h) (append-nil (rule t))
-
-pub then_gone : {Y : Type 0} (bs : Branches (Unit {0})) (rule : Rule Y) → [] ≡ bs → followed bs (λ _. rule) ≡ []
-then_gone bs rule h = rw (← h) refl
-
-pub then_fails : {Y : Type 0} (bs : Branches (Unit {0})) (rule : Rule Y) (kind : Kind) → fails kind ∷ [] ≡ bs → followed bs (λ _. rule) ≡ fails kind ∷ []
-then_fails bs rule kind h = rw (← h) refl
 
 -- ---- a term that has to keep within its bounds
 

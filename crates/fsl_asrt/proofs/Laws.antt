@@ -1,15 +1,11 @@
--- Rules that are followed, and conditions by their sides.
-use Rattle.std.proofs.Common.{◌≡◌, Bool, true, false, List, [], ◌∷◌, ◌++◌, map, filter, Option, Some, None, refl, sym, ap, ◌∙◌, append_assoc, append-nil}
+-- Laws of rules that are followed, of terms that they read first, and of lists of branches that grow. They are no file's
+-- of `src/` alone.
+use Rattle.std.proofs.Common.{◌≡◌, List, [], ◌∷◌, ◌++◌, map, Option, Some, None, refl, sym, ap, ◌∙◌, append_assoc, append-nil}
 use Rattle.std.proofs.lemmas.List.{map-append}
-use Rattle.fsl_asrt.specs.declared.given.Side.{Side}
-use Rattle.fsl_asrt.specs.Sides.{side_of, sides_of}
-use Rattle.fsl_core.specs.declared.expr.CmpOp.{CmpOp}
 use Rattle.fsl_core.specs.declared.verdict.Kind.{Kind}
 use Rattle.fsl_core.specs.declared.verdict.Kind.TheVariants.{Term}
-use Rattle.fsl_core.specs.logic.States.{Env, State, goes, fails, Branches, Rule, followed, ◌>>=◌, give, done, demand, demand_some}
-use Rattle.fsl_core.specs.logic.Terms.{Expression}
-use Rattle.fsl_core.specs.logic.Deciding as deciding
-use Rattle.fsl_core.specs.logic.Deciding.{Condition, compares, sides, each_side, agrees, decide, decided, assume_cond, demand_cond, is_sure}
+use Rattle.fsl_core.specs.logic.States.{Env, State, goes, fails, Branches, Rule, followed, ◌>>=◌, give, demand_some, here}
+use Rattle.fsl_core.specs.logic.Terms.{Expression, term}
 use Rattle.fsl_lin.specs.Combination.{Combination}
 
 pub followed_append : {X Y : Type 0} (bs cs : Branches X) (rule : X → Rule Y) → followed (bs ++ cs) rule ≡ followed bs rule ++ followed cs rule
@@ -44,62 +40,35 @@ pub lacked : {X Y : Type 0} (kind : Kind) (o : Option X) (s : State) (f : X → 
     → followed (demand_some kind o s) f ≡ fails kind ∷ []
 lacked kind o s f h = rw h refl
 
--- ---- conditions
+-- a rule over the variables as they are
+pub from_here : {Y : Type 0} (f : Env → Rule Y) (s : State) → (here >>= f) s ≡ f s.env s
+from_here f s = append-nil (f s.env s)
 
-pub compared : (op : CmpOp) (l r : Expression) (env : Env) (s : State) (a b : Combination)
-    → l.term s.facts env ≡ Some a → r.term s.facts env ≡ Some b
-    → sides (compares op l r) env s ≡ goes (decide op a b s.facts) s ∷ []
-compared op l r env s a b h k =
-    got Term (l.term s.facts env) a s _ h ∙ got Term (r.term s.facts env) b s _ k
+-- one branch, and what follows
+pub then_goes : {X Y : Type 0} (bs : Branches X) (x : X) (t : State) (f : X → Rule Y) → goes x t ∷ [] ≡ bs → followed bs f ≡ f x t
+then_goes bs x t f h = rw (← h) (append-nil (f x t))
 
-pub no_left : (op : CmpOp) (l r : Expression) (env : Env) (s : State) → l.term s.facts env ≡ None
-    → sides (compares op l r) env s ≡ fails Term ∷ []
-no_left op l r env s h = lacked Term (l.term s.facts env) s _ h
+pub then_infeasible : {X Y : Type 0} (bs : Branches X) (f : X → Rule Y) → [] ≡ bs → followed bs f ≡ []
+then_infeasible bs f h = rw (← h) refl
 
-pub no_right : (op : CmpOp) (l r : Expression) (env : Env) (s : State) (a : Combination)
-    → l.term s.facts env ≡ Some a → r.term s.facts env ≡ None
-    → sides (compares op l r) env s ≡ fails Term ∷ []
-no_right op l r env s a h k =
-    got Term (l.term s.facts env) a s _ h ∙ lacked Term (r.term s.facts env) s _ k
+pub then_fails : {X Y : Type 0} (bs : Branches X) (f : X → Rule Y) (kind : Kind) → fails kind ∷ [] ≡ bs → followed bs f ≡ fails kind ∷ []
+then_fails bs f kind h = rw (← h) refl
 
-pub by_sides : (c : Condition) (env : Env) (s : State) (xs : List deciding.Side) → sides c env s ≡ goes xs s ∷ []
-    → decided c env s ≡ each_side xs s
-by_sides c env s xs h = ap (λ (bs : Branches (List deciding.Side)). followed bs each_side) h ∙ append-nil (each_side xs s)
+-- ---- terms
 
-pub no_sides : (c : Condition) (env : Env) (s : State) → sides c env s ≡ fails Term ∷ [] → decided c env s ≡ fails Term ∷ []
-no_sides c env s h = ap (λ (bs : Branches (List deciding.Side)). followed bs each_side) h
+-- an expression that was read over the variables as they are
+pub has_term : (e : Expression) (s : State) (env : Env) (o : Option Combination) (t : Combination) → env ≡ s.env → o ≡ e.term s.facts env
+    → o ≡ Some t → e.term s.facts s.env ≡ Some t
+has_term e s env o t same is some = ap (λ (v : Env). e.term s.facts v) (sym same) ∙ sym is ∙ some
 
-pub assumed_by_sides : (answer : Bool) (c : Condition) (env : Env) (s : State) (xs : List deciding.Side) → sides c env s ≡ goes xs s ∷ []
-    → assume_cond answer c env s ≡ followed (each_side (deciding.sides_of answer xs) s) (λ _. done)
-assumed_by_sides answer c env s xs h =
-    ap (λ (bs : Branches (List deciding.Side)). followed bs (λ ys. each_side (deciding.sides_of answer ys) >>= (λ _. done))) h
-    ∙ append-nil (followed (each_side (deciding.sides_of answer xs) s) (λ _. done))
+-- a term over the variables as they are, and what follows
+pub with_term : {Y : Type 0} (e : Expression) (after : Combination → Rule Y) (s : State) (t : Combination) → e.term s.facts s.env ≡ Some t
+    → (here >>= (λ env. term e env >>= after)) s ≡ after t s
+with_term e after s t h = from_here (λ env. term e env >>= after) s ∙ got Term (e.term s.facts s.env) t s after h
 
-pub none_assumed : (answer : Bool) (c : Condition) (env : Env) (s : State) → sides c env s ≡ fails Term ∷ []
-    → assume_cond answer c env s ≡ fails Term ∷ []
-none_assumed answer c env s h =
-    ap (λ (bs : Branches (List deciding.Side)). followed bs (λ ys. each_side (deciding.sides_of answer ys) >>= (λ _. done))) h
-
-pub demanded_by_sides : (kind : Kind) (c : Condition) (env : Env) (s : State) (xs : List deciding.Side) → sides c env s ≡ goes xs s ∷ []
-    → demand_cond kind c env s ≡ demand kind (is_sure xs) s
-demanded_by_sides kind c env s xs h =
-    ap (λ (bs : Branches (List deciding.Side)). followed bs (λ ys. demand kind (is_sure ys))) h ∙ append-nil (demand kind (is_sure xs) s)
-
-pub none_demanded : (kind : Kind) (c : Condition) (env : Env) (s : State) → sides c env s ≡ fails Term ∷ []
-    → demand_cond kind c env s ≡ fails Term ∷ []
-none_demanded kind c env s h = ap (λ (bs : Branches (List deciding.Side)). followed bs (λ ys. demand kind (is_sure ys))) h
-
--- sides of the code that have an answer are those of the definition
-kept_side : (a b : Combination) (answer test : Bool) (x : Side) (xs : List Side) → agrees answer x.holds ≡ test
-    → sides_of a b (filter (λ y. agrees answer y.holds) xs) ≡ deciding.sides_of answer (sides_of a b xs)
-    → sides_of a b (filter (λ y. agrees answer y.holds) (x ∷ xs)) ≡ deciding.sides_of answer (sides_of a b (x ∷ xs))
-kept_side a b answer true x xs h e = rw h (ap (λ (r : List deciding.Side). side_of a b x ∷ r) e)
-kept_side a b answer false x xs h e = rw h e
-
-pub kept_sides : (a b : Combination) (answer : Bool) (xs : List Side)
-    → sides_of a b (filter (λ y. agrees answer y.holds) xs) ≡ deciding.sides_of answer (sides_of a b xs)
-kept_sides a b answer [] = refl
-kept_sides a b answer (x ∷ xs) = kept_side a b answer (agrees answer x.holds) x xs refl (kept_sides a b answer xs)
+pub without_term : {Y : Type 0} (e : Expression) (after : Combination → Rule Y) (s : State) → e.term s.facts s.env ≡ None
+    → (here >>= (λ env. term e env >>= after)) s ≡ fails Term ∷ []
+without_term e after s h = from_here (λ env. term e env >>= after) s ∙ lacked Term (e.term s.facts s.env) s after h
 
 -- ---- lists of branches that grow
 

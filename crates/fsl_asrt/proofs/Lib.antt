@@ -1,8 +1,8 @@
-pub mod FoundCells
-pub mod Joining
+pub mod CellsLemmas
+pub mod DecidingLemmas
+pub mod JoinLemmas
 pub mod Keeping
 pub mod Laws
-pub mod Parts
-pub mod Slots
-pub mod Taking
-pub mod Walking
+pub mod TakeLemmas
+pub mod TermsLemmas
+pub mod WalkLemmas

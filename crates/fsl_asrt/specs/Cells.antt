@@ -2,7 +2,7 @@
 use Rattle.std.specs.Prelude.{◌≡◌, ℕ, ◌<◌, List, ◌∷◌, ◌++◌, length, Option, Some, None, pos, remove, slice_get, slice_set}
 use Rattle.std.specs.Option.{option_map}
 use Rattle.fsl_asrt.specs.declared.cells.FoundCell.{FoundCell}
-use Rattle.fsl_chunk.specs.Listed.{kind_of, rung_of}
+use Rattle.fsl_chunk.specs.Kind.{kind_of, rung_of}
 use Rattle.fsl_chunk.specs.declared.kind.ChunkKind.TheVariants.{Points}
 use Rattle.fsl_core.specs.declared.chunk.Chunk.{Chunk}
 use Rattle.fsl_core.specs.declared.chunk.Chunk.TheVariants as chunk

@@ -1,8 +1,8 @@
 pub mod Asked
-pub mod Branches
-pub mod Built
+pub mod Branch
 pub mod Cells
 pub mod Pointed
 pub mod Sides
-pub mod Taken
-pub mod Ways
+pub mod Supported
+pub mod Take
+pub mod Walk

@@ -1,8 +1,8 @@
 //! Branches that carry an environment.
 ghost use Rattle.std.specs.Prelude.{◌≡◌, [], ◌∷◌, IfOk};
 ghost use Rattle.fsl_core.specs.logic.States.{goes, fails, followed, give};
-ghost use Rattle.fsl_chunk.specs.Branches.{branches};
-ghost use Rattle.fsl_asrt.specs.Branches.{branches as branch_list, bounds};
+ghost use Rattle.fsl_chunk.specs.Went.{branches};
+ghost use Rattle.fsl_asrt.specs.Branch.{branches as branch_list, bounds};
 
 use crate::branch::{Bound, Branch};
 use fsl_base::List;
@@ -34,7 +34,7 @@ pub fn went_with(alloc: Global, went: Went, env: Env) -> Result<List<Bound>, All
 {
     match went {
         Went::Goes { state } => going(alloc, state, env),
-        Went::Gone => Ok(List::new(alloc)),
+        Went::Infeasible => Ok(List::new(alloc)),
         Went::Fails { kind } => failing(alloc, kind),
     }
 }

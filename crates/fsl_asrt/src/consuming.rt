@@ -4,7 +4,7 @@ ghost use Rattle.fsl_core.specs.logic.Terms.{expr_of};
 ghost use Rattle.fsl_core.specs.logic.Deciding.{cond_of};
 ghost use Rattle.fsl_core.specs.logic.Producing.{pat_of};
 ghost use Rattle.fsl_core.specs.logic.Consuming.{failing, fact_consumed, points_consumed};
-ghost use Rattle.fsl_asrt.specs.Branches.{bounds};
+ghost use Rattle.fsl_asrt.specs.Branch.{bounds};
 
 use crate::bound::{failing as failed, went_with};
 use crate::branch::Bound;

@@ -4,8 +4,8 @@ ghost use Rattle.std.specs.Prelude.{◌≡◌, [], ◌∷◌, IfOk};
 ghost use Rattle.fsl_core.specs.logic.States.{followed, done};
 ghost use Rattle.fsl_core.specs.logic.Terms.{expr_of};
 ghost use Rattle.fsl_core.specs.logic.Deciding.{decide, each_side, cond_of, decided, assume_cond, demand_cond};
-ghost use Rattle.fsl_chunk.specs.Branches.{branches};
-ghost use Rattle.fsl_asrt.specs.Branches.{branches as branch_list, decided as decided_list};
+ghost use Rattle.fsl_chunk.specs.Went.{branches};
+ghost use Rattle.fsl_asrt.specs.Branch.{branches as branch_list, decided as decided_list};
 ghost use Rattle.fsl_asrt.specs.Sides.{assumed, sides_of, taken};
 
 use crate::asked::ask;
@@ -49,7 +49,7 @@ fn branch_of(
             state,
             holds: side.holds,
         })?,
-        Went::Gone => (),
+        Went::Infeasible => (),
         Went::Fails { kind } => out.push(Decided::Fails { kind })?,
     }
     Ok(out)

@@ -3,7 +3,7 @@ ghost use Rattle.std.specs.Prelude.{◌≡◌, pos, IfOk};
 ghost use Rattle.fsl_core.specs.logic.Deciding.{assume_at_most};
 ghost use Rattle.fsl_core.specs.logic.Joining.{full, assume_share, assume_same, known_of, add_cell};
 ghost use Rattle.fsl_core.specs.declared.chunk.Chunk.TheVariants as chunk;
-ghost use Rattle.fsl_chunk.specs.Branches.{branches};
+ghost use Rattle.fsl_chunk.specs.Went.{branches};
 ghost use Rattle.fsl_asrt.specs.Cells.{IsPoints, joined_at, summed_at, valued_at, put_at};
 
 use crate::cells::{FoundCell, cell_at};
@@ -13,8 +13,8 @@ use fsl_core::{Chunk, Kind, Rung};
 use fsl_lin::{Lin, LinFault};
 use std::alloc::{AllocError, Global};
 
-/// All shares of a cell.
-const FULL: i128 = 1 << 63;
+/// All shares of a cell: 2^63.
+pub const FULL: i128 = 1 << 63;
 
 /// Assumes that a share is at least 1 and at most all.
 pub fn assume_share(alloc: Global, state: State, share: &Lin) -> Result<Went, AllocError>
@@ -23,7 +23,7 @@ pub fn assume_share(alloc: Global, state: State, share: &Lin) -> Result<Went, Al
     let one = constant(alloc, 1)?;
     match state.assume_at_most(alloc, &one, 0, share)? {
         Went::Goes { state } => at_most_full(alloc, state, share),
-        Went::Gone => Ok(Went::Gone),
+        Went::Infeasible => Ok(Went::Infeasible),
         Went::Fails { kind } => Ok(Went::Fails { kind }),
     }
 }
@@ -94,7 +94,7 @@ fn join_sum(
 {
     match at_most_full(alloc, state, &sum)? {
         Went::Goes { state } => join_values(alloc, state, c, rung, sum, value),
-        Went::Gone => Ok(Went::Gone),
+        Went::Infeasible => Ok(Went::Infeasible),
         Went::Fails { kind } => Ok(Went::Fails { kind }),
     }
 }
@@ -113,7 +113,7 @@ fn join_values(
 {
     match assume_same(alloc, state, &c.value, &value)? {
         Went::Goes { state } => put_sum(alloc, state, c, rung, sum, value),
-        Went::Gone => Ok(Went::Gone),
+        Went::Infeasible => Ok(Went::Infeasible),
         Went::Fails { kind } => Ok(Went::Fails { kind }),
     }
 }

@@ -5,7 +5,6 @@
 mod asked;
 mod bound;
 mod branch;
-mod built;
 mod cells;
 mod consuming;
 mod deciding;
@@ -14,14 +13,16 @@ mod join;
 mod pointed;
 mod producing;
 mod sides;
+mod supported;
 mod take;
 mod terms;
 mod walk;
 
 pub use asked::read;
 pub use branch::{Bound, Branch, Decided};
-pub use built::is_built;
 pub use cells::{FoundCell, cell_at};
 pub use deciding::{assume_cond, decide, decide_cond, demand_cond};
+pub use join::FULL;
+pub use supported::is_supported;
 pub use terms::{constant, term};
 pub use walk::{consume, produce};

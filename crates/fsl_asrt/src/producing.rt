@@ -3,7 +3,7 @@ ghost use Rattle.std.specs.Prelude.{◌≡◌, Some, IfOk, slice_set};
 ghost use Rattle.fsl_core.specs.logic.Terms.{expr_of};
 ghost use Rattle.fsl_core.specs.logic.Deciding.{cond_of};
 ghost use Rattle.fsl_core.specs.logic.Producing.{add_wanted, pat_of, fact_produced, points_produced};
-ghost use Rattle.fsl_asrt.specs.Branches.{bounds};
+ghost use Rattle.fsl_asrt.specs.Branch.{bounds};
 ghost use Rattle.fsl_asrt.specs.Pointed.{wanted_of, produced, added};
 
 use crate::bound::{all_with, failing, went_with};
@@ -61,7 +61,7 @@ fn produce_cell(
 {
     match assume_share(alloc, state, &p.share)? {
         Went::Goes { state } => add_wanted(alloc, state, p, env, rung),
-        Went::Gone => Ok(List::new(alloc)),
+        Went::Infeasible => Ok(List::new(alloc)),
         Went::Fails { kind } => failing(alloc, kind),
     }
 }

@@ -4,10 +4,10 @@ ghost use Rattle.std.specs.Prelude.{◌≡◌, ◌++◌, None, true, pos, IfOk};
 ghost use Rattle.fsl_lin.specs.Combination.{constant};
 ghost use Rattle.fsl_core.specs.logic.Deciding.{proves_at_most};
 ghost use Rattle.fsl_core.specs.logic.Consuming.{match_value, consume_cell};
-ghost use Rattle.fsl_asrt.specs.Branches.{bounds};
+ghost use Rattle.fsl_asrt.specs.Branch.{bounds};
 ghost use Rattle.fsl_asrt.specs.Cells.{IsPoints};
 ghost use Rattle.fsl_asrt.specs.Pointed.{wanted_of};
-ghost use Rattle.fsl_asrt.specs.Taken.{IsSearched, matched, held, taken_from, rest_taken, none_left, some_left, part_left, left};
+ghost use Rattle.fsl_asrt.specs.Take.{IsSearched, matched, held, taken_from, rest_taken, none_left, some_left, part_left, left};
 
 use crate::bound::{failing, going};
 use crate::branch::Bound;
@@ -249,7 +249,7 @@ fn none_left(
 {
     match state.assume_at_most(alloc, &c.share, 0, share)? {
         Went::Goes { state } => all_taken(alloc, state, c, env, rung),
-        Went::Gone => Ok(List::new(alloc)),
+        Went::Infeasible => Ok(List::new(alloc)),
         Went::Fails { kind } => failing(alloc, kind),
     }
 }
@@ -268,7 +268,7 @@ fn some_left(
 {
     match state.assume_at_most(alloc, share, 1, &c.share)? {
         Went::Goes { state } => part_taken(alloc, state, c, share, env, rung),
-        Went::Gone => Ok(List::new(alloc)),
+        Went::Infeasible => Ok(List::new(alloc)),
         Went::Fails { kind } => failing(alloc, kind),
     }
 }

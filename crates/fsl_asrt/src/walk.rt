@@ -5,9 +5,9 @@ ghost use Rattle.fsl_core.specs.logic.Terms.{expr_of};
 ghost use Rattle.fsl_core.specs.logic.Deciding.{cond_of};
 ghost use Rattle.fsl_core.specs.logic.Producing.{pat_of};
 ghost use Rattle.fsl_core.specs.logic.Assertions.{asrt_of};
-ghost use Rattle.fsl_asrt.specs.Branches.{bounds};
-ghost use Rattle.fsl_asrt.specs.Built.{is_built};
-ghost use Rattle.fsl_asrt.specs.Ways.{by_way, fact_by, points_by};
+ghost use Rattle.fsl_asrt.specs.Branch.{bounds};
+ghost use Rattle.fsl_asrt.specs.Supported.{is_supported};
+ghost use Rattle.fsl_asrt.specs.Walk.{by_way, fact_by, points_by};
 
 use crate::bound::going;
 use crate::branch::{Bound, Decided};
@@ -33,7 +33,7 @@ pub fn produce(
     env: Env,
     rung: Rung,
 ) -> Result<List<Bound>, AllocError>
-    requires { IsTrue (is_built a.now) }
+    requires { IsTrue (is_supported a.now) }
     ensures { IfOk result (λ bs. bounds bs ≡ (asrt_of a.now).produce rung env state) }
 {
     walk(alloc, Way::Produce, state, a, env, rung)
@@ -48,7 +48,7 @@ pub fn consume(
     rung: Rung,
     mood: Mood,
 ) -> Result<List<Bound>, AllocError>
-    requires { IsTrue (is_built a.now) }
+    requires { IsTrue (is_supported a.now) }
     ensures { IfOk result (λ bs. bounds bs ≡ (asrt_of a.now).consume mood rung env state) }
 {
     walk(alloc, Way::Consume { mood }, state, a, env, rung)
@@ -56,7 +56,7 @@ pub fn consume(
 
 /// Produces or consumes an assertion.
 #[cycle(walk)]
-#[tactic(auto, using(crate::proofs::Walking::by_choice, crate::proofs::Walking::one_more, crate::proofs::Walking::no_more))]
+#[tactic(auto, using(crate::proofs::WalkLemmas::by_choice, crate::proofs::WalkLemmas::one_more, crate::proofs::WalkLemmas::no_more))]
 fn walk(
     alloc: Global,
     way: Way,
@@ -65,7 +65,7 @@ fn walk(
     env: Env,
     rung: Rung,
 ) -> Result<List<Bound>, AllocError>
-    requires { IsTrue (is_built a.now) }
+    requires { IsTrue (is_supported a.now) }
     ensures { IfOk result (λ bs. bounds bs ≡ by_way way (asrt_of a.now) rung env state) }
 {
     match a {
@@ -114,7 +114,7 @@ fn each(
     a: &Asrt,
     rung: Rung,
 ) -> Result<List<Bound>, AllocError>
-    requires { IsTrue (is_built a.now) }
+    requires { IsTrue (is_supported a.now) }
     ensures { IfOk result (λ bs. bounds bs ≡ followed (bounds branches) (by_way way (asrt_of a.now) rung)) }
 {
     let mut out = List::new(alloc);

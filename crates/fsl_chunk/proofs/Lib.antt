@@ -1,7 +1,6 @@
-pub mod Apart
-pub mod Assuming
-pub mod Fitting
-pub mod Found
-pub mod InLists
-pub mod Listing
-pub mod Searching
+pub mod FitsLemmas
+pub mod FoundItems
+pub mod HeapNumbers
+pub mod HeapSearch
+pub mod NumbersLemmas
+pub mod StateLemmas

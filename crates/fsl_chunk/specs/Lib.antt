@@ -1,4 +1,4 @@
-pub mod Branches
-pub mod Listed
-pub mod Lists
-pub mod Sought
+pub mod Fits
+pub mod Kind
+pub mod Numbers
+pub mod Went

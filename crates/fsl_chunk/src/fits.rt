@@ -3,7 +3,7 @@ ghost use Rattle.std.specs.Prelude.{◌≡◌, ◌&&◌, false, pos, is_some};
 ghost use Rattle.fsl_lin.specs.Facts.{absurd_facts};
 ghost use Rattle.fsl_core.specs.logic.Chunks.{same_rung, cell_at, enough_at, init_at, rel_at, rmw_at, tokens_of, authority_of};
 ghost use Rattle.fsl_core.specs.logic.Deciding.{proves_equal, proves_at_most};
-ghost use Rattle.fsl_chunk.specs.Sought.{fits, kind_sought, rung_sought};
+ghost use Rattle.fsl_chunk.specs.Fits.{fits, kind_sought, rung_sought};
 
 use crate::kind::{ChunkKind, same_rung};
 use crate::want::Want;

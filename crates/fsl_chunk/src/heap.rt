@@ -2,8 +2,8 @@
 ghost use Rattle.std.specs.Prelude.{◌≡◌, ◌<◌, ◌≤◌, ◌++◌, ◌∷◌, [], false, Some, length, remove, slice_get, slice_set, IfOk, IfSome, OnOk, OnErr, IsErrOf};
 ghost use Rattle.std.specs.Option.{option_map};
 ghost use Rattle.fsl_lin.specs.Facts.{absurd_facts};
-ghost use Rattle.fsl_chunk.specs.Listed.{kind_of, rung_of, listed};
-ghost use Rattle.fsl_chunk.specs.Sought.{sought};
+ghost use Rattle.fsl_chunk.specs.Kind.{kind_of, rung_of, numbers_of};
+ghost use Rattle.fsl_chunk.specs.Fits.{sought};
 
 use crate::fault::HeapFault;
 use crate::fits::{fits, kind_sought, rung_sought};
@@ -28,13 +28,13 @@ pub struct Heap {
 impl Model for Heap {
     ghost use Rattle.std.specs.Prelude.{List as Seq};
     ghost use Rattle.fsl_core.specs.declared.chunk.Chunk as declared;
-    ghost use Rattle.fsl_chunk.specs.Lists.{IsListed};
+    ghost use Rattle.fsl_chunk.specs.Numbers.{IsIndexed};
 
     ghost Value = { Seq declared.Chunk };
 
     ghost view = { λ heap. heap.chunks.items };
 
-    ghost invariant = { λ heap. IsListed heap.chunks.items heap.numbers };
+    ghost invariant = { λ heap. IsIndexed heap.chunks.items heap.numbers };
 }
 
 impl Heap {
@@ -66,8 +66,8 @@ impl Heap {
 
     /// The numbers of the chunks of a kind and a rung, ascending. Those without a rung stand at `Plain`. It takes
     /// no memory.
-    pub fn listed(&self, kind: ChunkKind, rung: Rung) -> &[u32]
-        ensures { result.now ≡ listed kind rung self.now }
+    pub fn numbers_of(&self, kind: ChunkKind, rung: Rung) -> &[u32]
+        ensures { result.now ≡ numbers_of kind rung self.now }
     {
         self.numbers.list(list_number(kind, rung))
     }
@@ -78,7 +78,7 @@ impl Heap {
         ensures first { result ≡ sought want.now pure.now.facts self.now }
         ensures within { IfSome result (λ number. number < length self.now) }
     {
-        for number in self.listed(kind_sought(want), rung_sought(want)) {
+        for number in self.numbers_of(kind_sought(want), rung_sought(want)) {
             if fits(pure, want, self.at(*number)) {
                 return Some(*number);
             }

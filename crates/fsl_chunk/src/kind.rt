@@ -1,8 +1,8 @@
 //! Kinds of chunks.
 ghost use Rattle.std.specs.Prelude.{◌≡◌};
 ghost use Rattle.fsl_core.specs.logic.Chunks.{same_rung};
-ghost use Rattle.fsl_chunk.specs.Listed.{kind_of, rung_of, kind_number};
-ghost use Rattle.fsl_chunk.specs.Lists.{rung_number, list_number};
+ghost use Rattle.fsl_chunk.specs.Kind.{kind_of, rung_of, kind_number};
+ghost use Rattle.fsl_chunk.specs.Numbers.{rung_number, list_number};
 
 use fsl_core::{Chunk, Rung};
 
@@ -75,7 +75,7 @@ fn rung_number(rung: Rung) -> usize
 }
 
 /// Whether two rungs are the same.
-#[tactic(auto, using(crate::proofs::Listing::rungs_same))]
+#[tactic(auto, using(crate::proofs::HeapNumbers::rungs_same))]
 pub fn same_rung(rung: Rung, other: Rung) -> bool
     ensures { result ≡ same_rung rung other }
 {

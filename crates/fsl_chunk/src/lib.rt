@@ -5,13 +5,10 @@
 mod env;
 mod fault;
 mod fits;
-mod gap;
 mod heap;
 mod kind;
 mod numbers;
 mod state;
-#[cfg(test)]
-mod tests;
 mod want;
 mod went;
 

@@ -1,6 +1,6 @@
 //! Lists of the numbers of chunks, one for each kind and rung.
 ghost use Rattle.std.specs.Prelude.{◌≡◌, ◌<◌, ◌++◌, ◌∷◌, [], length, get_or, map, replicate, slice_set, IfOk, OnOk, OnErr};
-ghost use Rattle.fsl_chunk.specs.Lists.{without, lowered};
+ghost use Rattle.fsl_chunk.specs.Numbers.{without, lowered};
 
 use fsl_base::List;
 use std::alloc::{AllocError, Global};

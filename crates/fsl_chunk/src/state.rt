@@ -8,19 +8,18 @@ ghost use Rattle.fsl_lin.specs.declared.fact.Fact.TheVariants.{Le, Is};
 ghost use Rattle.fsl_core.specs.logic.States.{goes, new_symbol, set};
 ghost use Rattle.fsl_core.specs.logic.Deciding.{proves_at_most, proves_equal, assume, assume_at_most, assume_equal};
 ghost use Rattle.fsl_core.specs.logic.Chunks.{add};
-ghost use Rattle.fsl_chunk.specs.Branches.{branches, branches_made};
-ghost use Rattle.fsl_chunk.specs.Listed.{kind_of, rung_of};
-ghost use Rattle.fsl_chunk.specs.Sought.{sought};
+ghost use Rattle.fsl_chunk.specs.Went.{branches, branches_made};
+ghost use Rattle.fsl_chunk.specs.Kind.{kind_of, rung_of};
+ghost use Rattle.fsl_chunk.specs.Fits.{sought};
 
 use crate::env::Env;
 use crate::fault::HeapFault;
-use crate::gap::gap_between;
 use crate::heap::Heap;
 use crate::want::Want;
 use crate::went::{Made, Went};
 use fsl_core::{Chunk, Kind};
 use fsl_lin::{Lin, LinFault};
-use fsl_pure::{Pure, PureFault, Shared};
+use fsl_pure::{Pure, PureFault, Shared, gap_between};
 use std::alloc::{AllocError, Global};
 use std::marker::Model;
 
@@ -252,7 +251,7 @@ fn settled(env: Env, pure: Pure, heap: Heap) -> Went
     ensures { branches result ≡ (if absurd_facts pure.facts then [] else goes tt (record { env = env; facts = pure.facts; chunks = heap; next = pure.symbols }) ∷ []) }
 {
     if pure.absurd() {
-        Went::Gone
+        Went::Infeasible
     } else {
         Went::Goes {
             state: State { env, pure, heap },

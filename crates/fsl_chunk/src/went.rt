@@ -9,7 +9,7 @@ pub enum Went {
     /// It goes on with this state.
     Goes { state: State },
     /// The facts contradict each other, so there is no branch.
-    Gone,
+    Infeasible,
     /// The path fails.
     Fails { kind: Kind },
 }

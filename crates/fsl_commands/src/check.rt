@@ -1,6 +1,6 @@
 //! The command `check`: a program is read and judged.
 ghost use Rattle.std.specs.Prelude.{◌≡◌, ◌≤◌, length, IfOk, IsTrue};
-ghost use Rattle.fsl_flow.specs.Built.{is_built};
+ghost use Rattle.fsl_flow.specs.Supported.{is_supported};
 ghost use Rattle.fsl_commands.specs.Answer.{IsSaid};
 ghost use Rattle.fsl_commands.specs.Changes.{reading, writing};
 ghost use Rattle.fsl_commands.specs.Check.{IsChecked, verdict_answer, verdict_status};
@@ -35,7 +35,7 @@ fn judged<R: Threads + Sync, G: Gate>(
     workers: u32,
     gate: &G,
 ) -> Result<Answer, AllocError>
-    requires supported { IsTrue (is_built loaded.now.program) }
+    requires supported { IsTrue (is_supported loaded.now.program) }
     requires within { length loaded.now.bytes ≤ 1048576 }
     requires some { 1 ≤ workers }
     requires few { workers ≤ 64 }

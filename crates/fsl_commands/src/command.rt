@@ -3,7 +3,7 @@ ghost use Rattle.std.specs.Prelude.{◌≡◌};
 ghost use Rattle.fsl_commands.specs.Command.{supports};
 
 use fsl_core::{Program, is_straight};
-use fsl_flow::built;
+use fsl_flow::is_supported;
 
 /// A command that reads a program.
 #[derive(Clone, Copy, Debug, PartialEq, Eq)]
@@ -20,7 +20,7 @@ impl Command {
         ensures { result ≡ supports self p.now }
     {
         match self {
-            Command::Check => built(p),
+            Command::Check => is_supported(p),
             Command::Run => is_straight(p),
         }
     }

@@ -1,9 +1,9 @@
-pub mod Built
 pub mod Calls
+pub mod Continuation
+pub mod Looping
 pub mod Next
-pub mod Owned
-pub mod Places
-pub mod Rests
-pub mod Rounds
+pub mod Paths
+pub mod Pending
 pub mod Sets
-pub mod Simple
+pub mod Statements
+pub mod Supported

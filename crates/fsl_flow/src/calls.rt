@@ -9,8 +9,8 @@ ghost use Rattle.fsl_core.specs.logic.Assertions.{asrt_of};
 ghost use Rattle.fsl_core.specs.logic.Locations.{setting_of, contract_of};
 ghost use Rattle.fsl_core.specs.logic.Calls as rules;
 ghost use Rattle.fsl_core.specs.logic.Calls.{gain_post, set_result};
-ghost use Rattle.fsl_asrt.specs.Branches.{branches, bounds};
-ghost use Rattle.fsl_flow.specs.Built.{is_built_proc};
+ghost use Rattle.fsl_asrt.specs.Branch.{branches, bounds};
+ghost use Rattle.fsl_flow.specs.Supported.{is_supported_proc};
 ghost use Rattle.fsl_flow.specs.Calls.{gained, behind_pre};
 
 use crate::contract::{failing, padded, without_env};
@@ -23,7 +23,7 @@ use fsl_lin::Lin;
 use std::alloc::{AllocError, Global};
 
 /// A call: the terms of its arguments, then its `requires` and `ensures`.
-#[tactic(auto, using(crate::proofs::Calling::not_called))]
+#[tactic(auto, using(crate::proofs::CallsLemmas::not_called))]
 pub fn call(
     alloc: Global,
     p: &Program,
@@ -32,7 +32,7 @@ pub fn call(
     proc: u32,
     args: &[Expr],
 ) -> Result<List<Branch>, AllocError>
-    requires { IsTrue (list_all is_built_proc p.now.procs) }
+    requires { IsTrue (list_all is_supported_proc p.now.procs) }
     ensures { IfOk result (λ bs. branches bs ≡ rules.call (setting_of asrt_of p.now) slot proc (map expr_of args.now) state) }
 {
     match arguments(alloc, &state, args)? {
@@ -45,17 +45,17 @@ pub fn call(
 }
 
 /// The procedure of a number; `None` exactly where there is no such procedure.
-#[tactic(auto, using(crate::proofs::Calling::found_built))]
+#[tactic(auto, using(crate::proofs::CallsLemmas::found_supported))]
 pub fn procedure(p: &Program, number: u32) -> Option<&Proc>
-    requires { IsTrue (list_all is_built_proc p.now.procs) }
+    requires { IsTrue (list_all is_supported_proc p.now.procs) }
     ensures found { option_copied result ≡ slice_get p.now.procs number }
-    ensures built { IfSome result (λ q. IsTrue (is_built_proc q.now)) }
+    ensures supported { IfSome result (λ q. IsTrue (is_supported_proc q.now)) }
 {
     p.procs().get(number as usize)
 }
 
 /// The terms of arguments over the variables as they are; `None` where one of them has none.
-#[tactic(auto, using(crate::proofs::Calling::args_wide, crate::proofs::Calling::args_done))]
+#[tactic(auto, using(crate::proofs::CallsLemmas::args_wide, crate::proofs::CallsLemmas::args_done))]
 pub fn arguments(alloc: Global, state: &State, args: &[Expr]) -> Result<Option<Env>, AllocError>
     ensures { IfOk result (λ ts. demand_some kind.Term ts state.now ≡ terms (map expr_of args.now) state.now.env state.now) }
 {
@@ -79,7 +79,7 @@ pub fn going(alloc: Global, state: State) -> Result<List<Branch>, AllocError>
 }
 
 /// A call of a procedure: its `requires` is consumed, and on each branch its `ensures` is produced.
-#[tactic(auto, using(crate::proofs::Building::pre_built, crate::proofs::Building::post_built))]
+#[tactic(auto, using(crate::proofs::SupportedLemmas::pre_supported, crate::proofs::SupportedLemmas::post_supported))]
 fn call_proc(
     alloc: Global,
     state: State,
@@ -87,7 +87,7 @@ fn call_proc(
     q: &Proc,
     args: Env,
 ) -> Result<List<Branch>, AllocError>
-    requires { IsTrue (is_built_proc q.now) }
+    requires { IsTrue (is_supported_proc q.now) }
     ensures { IfOk result (λ bs. branches bs ≡ rules.call_proc slot (Some (contract_of asrt_of q.now)) args state) }
 {
     let env = padded(alloc, args, q.slots)?;
@@ -104,7 +104,7 @@ fn behind_each(
     named: bool,
     q: &Proc,
 ) -> Result<List<Branch>, AllocError>
-    requires { IsTrue (is_built_proc q.now) }
+    requires { IsTrue (is_supported_proc q.now) }
     ensures { IfOk result (λ bs. branches bs ≡ followed (bounds given) (behind_pre slot named (contract_of asrt_of q.now))) }
 {
     let mut out = List::new(alloc);
@@ -121,7 +121,7 @@ fn behind_each(
 }
 
 /// What comes behind a `requires`. The result is a new symbol where something speaks of it.
-#[tactic(auto, using(crate::proofs::Calling::unnamed, crate::proofs::Calling::named, crate::proofs::Calling::not_named))]
+#[tactic(auto, using(crate::proofs::CallsLemmas::unnamed, crate::proofs::CallsLemmas::named, crate::proofs::CallsLemmas::not_named))]
 fn behind_pre(
     alloc: Global,
     state: State,
@@ -130,7 +130,7 @@ fn behind_pre(
     q: &Proc,
     env: Env,
 ) -> Result<List<Branch>, AllocError>
-    requires { IsTrue (is_built_proc q.now) }
+    requires { IsTrue (is_supported_proc q.now) }
     ensures { IfOk result (λ bs. branches bs ≡ behind_pre slot named (contract_of asrt_of q.now) env state) }
 {
     if !named {
@@ -151,7 +151,7 @@ fn gained(
     env: Env,
     t: Option<Lin>,
 ) -> Result<List<Branch>, AllocError>
-    requires { IsTrue (is_built_proc q.now) }
+    requires { IsTrue (is_supported_proc q.now) }
     ensures { IfOk result (λ bs. branches bs ≡ gained slot (contract_of asrt_of q.now) env t state) }
 {
     match t {
@@ -165,7 +165,7 @@ fn gained(
 }
 
 /// The `ensures` of a procedure is produced, with the result behind the variables.
-#[tactic(auto, using(crate::proofs::Building::post_built))]
+#[tactic(auto, using(crate::proofs::SupportedLemmas::post_supported))]
 pub fn gain_post(
     alloc: Global,
     state: State,
@@ -173,7 +173,7 @@ pub fn gain_post(
     env: Env,
     t: Option<Lin>,
 ) -> Result<List<Branch>, AllocError>
-    requires { IsTrue (is_built_proc q.now) }
+    requires { IsTrue (is_supported_proc q.now) }
     ensures { IfOk result (λ bs. branches bs ≡ gain_post (contract_of asrt_of q.now) env t state) }
 {
     let mut env = env;

@@ -9,8 +9,8 @@ ghost use Rattle.fsl_core.specs.logic.Locations.{contract_of, padded};
 ghost use Rattle.fsl_core.specs.logic.Calls as calls;
 ghost use Rattle.fsl_core.specs.logic.Calls.{new_symbols, enter};
 ghost use Rattle.fsl_core.specs.logic.Paths.{start, return, give_inv};
-ghost use Rattle.fsl_asrt.specs.Branches.{branches, bounds, bound_of};
-ghost use Rattle.fsl_asrt.specs.Built.{is_built};
+ghost use Rattle.fsl_asrt.specs.Branch.{branches, bounds, bound_of};
+ghost use Rattle.fsl_asrt.specs.Supported.{is_supported};
 
 use fsl_asrt::{Bound, Branch, constant, consume, produce, read};
 use fsl_base::List;
@@ -60,9 +60,9 @@ fn with_env(alloc: Global, bound: List<Bound>) -> Result<List<Branch>, AllocErro
 }
 
 /// The procedure ends with a result: its `ensures` is consumed, and what is left is dropped.
-#[tactic(auto, using(crate::proofs::Contracting::finished))]
+#[tactic(auto, using(crate::proofs::ContractLemmas::finished))]
 pub fn finish(alloc: Global, state: State, post: &Asrt, t: Lin) -> Result<List<Branch>, AllocError>
-    requires { IsTrue (is_built post.now) }
+    requires { IsTrue (is_supported post.now) }
     ensures { IfOk result (λ bs. branches bs ≡ calls.finish (asrt_of post.now) t state) }
 {
     let mut env = state.env().fork(alloc)?;
@@ -73,7 +73,7 @@ pub fn finish(alloc: Global, state: State, post: &Asrt, t: Lin) -> Result<List<B
 
 /// The closing brace: the procedure ends with the result 0.
 pub fn close(alloc: Global, state: State, post: &Asrt) -> Result<List<Branch>, AllocError>
-    requires { IsTrue (is_built post.now) }
+    requires { IsTrue (is_supported post.now) }
     ensures { IfOk result (λ bs. branches bs ≡ calls.finish (asrt_of post.now) nought state) }
 {
     let t = constant(alloc, 0)?;
@@ -81,14 +81,14 @@ pub fn close(alloc: Global, state: State, post: &Asrt) -> Result<List<Branch>, A
 }
 
 /// A `return`: the procedure ends with the result of an expression.
-#[tactic(auto, using(crate::proofs::Ending::returned, crate::proofs::Ending::not_returned))]
+#[tactic(auto, using(crate::proofs::ContractLemmas::returned, crate::proofs::ContractLemmas::not_returned))]
 pub fn return_with(
     alloc: Global,
     state: State,
     post: &Asrt,
     e: &Expr,
 ) -> Result<List<Branch>, AllocError>
-    requires { IsTrue (is_built post.now) }
+    requires { IsTrue (is_supported post.now) }
     ensures { IfOk result (λ bs. branches bs ≡ return (asrt_of post.now) (expr_of e.now) state) }
 {
     match read(alloc, &state, e, state.env())? {
@@ -98,9 +98,9 @@ pub fn return_with(
 }
 
 /// The invariant of a loop is given: it is consumed.
-#[tactic(auto, using(crate::proofs::Contracting::inv_given))]
+#[tactic(auto, using(crate::proofs::ContractLemmas::inv_given))]
 pub fn give_inv(alloc: Global, state: State, inv: &Asrt) -> Result<List<Branch>, AllocError>
-    requires { IsTrue (is_built inv.now) }
+    requires { IsTrue (is_supported inv.now) }
     ensures { IfOk result (λ bs. branches bs ≡ give_inv (asrt_of inv.now) state) }
 {
     let env = state.env().fork(alloc)?;
@@ -109,7 +109,7 @@ pub fn give_inv(alloc: Global, state: State, inv: &Asrt) -> Result<List<Branch>,
 }
 
 /// New symbols for so many parameters, behind one another.
-#[tactic(auto, using(crate::proofs::Following::symbols_goes, crate::proofs::Following::symbols_fails))]
+#[tactic(auto, using(crate::proofs::ContractLemmas::symbols_goes, crate::proofs::ContractLemmas::symbols_fails))]
 fn new_symbols(alloc: Global, state: State, params: u32) -> Result<Bound, AllocError>
     ensures { IfOk result (λ bound. bound_of bound ∷ [] ≡ new_symbols params state) }
 {
@@ -128,7 +128,7 @@ fn new_symbols(alloc: Global, state: State, params: u32) -> Result<Bound, AllocE
 }
 
 /// An environment with a zero for each slot that is not set yet.
-#[tactic(auto, using(crate::proofs::Padding::padded_more, crate::proofs::Padding::padded_full))]
+#[tactic(auto, using(crate::proofs::ContractLemmas::padded_more, crate::proofs::ContractLemmas::padded_full))]
 pub fn padded(alloc: Global, env: Env, slots: u32) -> Result<Env, AllocError>
     ensures { IfOk result (λ all. all ≡ padded slots env) }
 {
@@ -141,9 +141,9 @@ pub fn padded(alloc: Global, env: Env, slots: u32) -> Result<Env, AllocError>
 }
 
 /// A procedure starts with new symbols for its parameters, and what its `requires` says.
-#[tactic(auto, using(crate::proofs::Contracting::entered, crate::proofs::Contracting::not_entered))]
+#[tactic(auto, using(crate::proofs::ContractLemmas::entered, crate::proofs::ContractLemmas::not_entered))]
 pub fn enter(alloc: Global, proc: &Proc) -> Result<List<Branch>, AllocError>
-    requires { IsTrue (is_built proc.now.pre) }
+    requires { IsTrue (is_supported proc.now.pre) }
     ensures { IfOk result (λ bs. branches bs ≡ enter (contract_of asrt_of proc.now) start) }
 {
     let state = State::new(alloc, Env::new(alloc))?;

@@ -6,14 +6,14 @@ ghost use Rattle.fsl_core.specs.logic.Deciding.{cond_of, assume_cond};
 ghost use Rattle.fsl_core.specs.logic.Assertions.{asrt_of};
 ghost use Rattle.fsl_core.specs.logic.Slots.{renew};
 ghost use Rattle.fsl_core.specs.logic.Paths.{round};
-ghost use Rattle.fsl_chunk.specs.Branches as chunks;
-ghost use Rattle.fsl_asrt.specs.Branches.{branches, bounds, decided as decisions};
-ghost use Rattle.fsl_asrt.specs.Built.{is_built};
-ghost use Rattle.fsl_flow.specs.Rounds.{decided_here, produced, body_round};
+ghost use Rattle.fsl_chunk.specs.Went as chunks;
+ghost use Rattle.fsl_asrt.specs.Branch.{branches, bounds, decided as decisions};
+ghost use Rattle.fsl_asrt.specs.Supported.{is_supported};
+ghost use Rattle.fsl_flow.specs.Looping.{decided_here, produced, body_round};
 ghost use Rattle.fsl_flow.specs.Sets.{stmts_set};
 
+use crate::continuation::Loop;
 use crate::contract::failing;
-use crate::rest::Round;
 use crate::sets::set_among;
 use fsl_asrt::{Bound, Branch, Decided, assume_cond, decide_cond, produce};
 use fsl_base::List;
@@ -22,7 +22,7 @@ use fsl_core::{Cond, Rung, Stmt};
 use std::alloc::{AllocError, Global};
 
 /// Decides a condition over the variables as they are.
-#[tactic(auto, using(crate::proofs::Contracting::decided_so))]
+#[tactic(auto, using(crate::proofs::LoopingLemmas::decided_so))]
 pub fn decide(alloc: Global, state: State, cond: &Cond) -> Result<List<Decided>, AllocError>
     ensures { IfOk result (λ ds. decisions ds ≡ decided_here (cond_of expr_of cond.now) state) }
 {
@@ -31,7 +31,7 @@ pub fn decide(alloc: Global, state: State, cond: &Cond) -> Result<List<Decided>,
 }
 
 /// Of the declared slots, those that statements set get new symbols, in ascending order.
-#[tactic(auto, using(crate::proofs::Following::renew_goes, crate::proofs::Following::renew_skips, crate::proofs::Following::renew_fails))]
+#[tactic(auto, using(crate::proofs::LoopingLemmas::renew_goes, crate::proofs::LoopingLemmas::renew_skips, crate::proofs::LoopingLemmas::renew_fails))]
 fn renew(alloc: Global, state: State, declared: u64, body: &[Stmt]) -> Result<Went, AllocError>
     ensures { IfOk result (λ went. chunks.branches went ≡ renew declared (stmts_set body.now) state) }
 {
@@ -74,14 +74,14 @@ fn assume_each(
 }
 
 /// The invariant is produced, and what the condition then says is assumed.
-#[tactic(auto, using(crate::proofs::Contracting::produced_so))]
+#[tactic(auto, using(crate::proofs::LoopingLemmas::produced_so))]
 fn produced(
     alloc: Global,
     state: State,
-    x: &Round<'_>,
+    x: &Loop<'_>,
     answer: bool,
 ) -> Result<List<Branch>, AllocError>
-    requires { IsTrue (is_built x.now.inv.now) }
+    requires { IsTrue (is_supported x.now.inv.now) }
     ensures { IfOk result (λ bs. branches bs ≡ produced (asrt_of x.now.inv.now) answer (cond_of expr_of x.now.cond.now) state) }
 {
     let env = state.env().fork(alloc)?;
@@ -91,27 +91,27 @@ fn produced(
 }
 
 /// What holds at some round, where the condition has this answer.
-#[tactic(auto, using(crate::proofs::Contracting::round_goes, crate::proofs::Contracting::round_gone, crate::proofs::Contracting::round_fails))]
+#[tactic(auto, using(crate::proofs::LoopingLemmas::round_goes, crate::proofs::LoopingLemmas::round_infeasible, crate::proofs::LoopingLemmas::round_fails))]
 pub fn at_round(
     alloc: Global,
     state: State,
-    x: &Round<'_>,
+    x: &Loop<'_>,
     answer: bool,
 ) -> Result<List<Branch>, AllocError>
-    requires { IsTrue (is_built x.now.inv.now) }
+    requires { IsTrue (is_supported x.now.inv.now) }
     ensures { IfOk result (λ bs. branches bs ≡ round answer (cond_of expr_of x.now.cond.now) (asrt_of x.now.inv.now) x.now.declared (stmts_set x.now.body.now) state) }
 {
     match renew(alloc, state, x.declared, x.body)? {
         Went::Goes { state } => produced(alloc, state, x, answer),
-        Went::Gone => Ok(List::new(alloc)),
+        Went::Infeasible => Ok(List::new(alloc)),
         Went::Fails { kind } => failing(alloc, kind),
     }
 }
 
 /// What holds at some round in which the body runs, on a path of its own that owns nothing but the invariant.
-#[tactic(auto, using(crate::proofs::Contracting::body_so))]
-pub fn at_body(alloc: Global, state: &State, x: &Round<'_>) -> Result<List<Branch>, AllocError>
-    requires { IsTrue (is_built x.now.inv.now) }
+#[tactic(auto, using(crate::proofs::LoopingLemmas::body_so))]
+pub fn at_body(alloc: Global, state: &State, x: &Loop<'_>) -> Result<List<Branch>, AllocError>
+    requires { IsTrue (is_supported x.now.inv.now) }
     ensures { IfOk result (λ bs. branches bs ≡ body_round (cond_of expr_of x.now.cond.now) (asrt_of x.now.inv.now) x.now.declared (stmts_set x.now.body.now) state.now) }
 {
     let mut own = state.fork(alloc)?;

@@ -1,19 +1,20 @@
 //! One step of a path: what comes next, the first first.
 ghost use Rattle.std.specs.Prelude.{◌≡◌, map, IfOk, IsTrue};
 ghost use Rattle.std.specs.List.{list_all};
-ghost use Rattle.fsl_asrt.specs.Built as assertions;
-ghost use Rattle.fsl_flow.specs.Built.{is_built_act, are_built, is_built_proc};
-ghost use Rattle.fsl_flow.specs.Places.{leaving_of, left_of, item_of, goes_on};
+ghost use Rattle.fsl_asrt.specs.Supported as assertions;
+ghost use Rattle.fsl_flow.specs.Supported.{is_supported_act, are_supported, is_supported_proc};
+ghost use Rattle.fsl_flow.specs.Continuation.{leaving_of, continuation_of};
+ghost use Rattle.fsl_flow.specs.Pending.{item_of, goes_on};
 ghost use Rattle.fsl_flow.specs.Next.{next, next_exit, next_turn, next_block, next_stmt};
-ghost use Rattle.fsl_flow.specs.Rests.{is_built_leaving, is_built_left};
+ghost use Rattle.fsl_flow.specs.Paths.{is_supported_leaving, is_supported_continuation};
 
 use crate::calls::call;
+use crate::continuation::{Continuation, Exit, Frame, Loop};
 use crate::contract::{close, give_inv, return_with};
 use crate::job::Job;
 use crate::looping::{at_body, at_round, decide};
 use crate::par::par;
 use crate::pending::{Pending, each, each_end, each_side, one};
-use crate::rest::{Exit, Level, Rest, Round};
 use crate::sets::past;
 use crate::statements::{is_simple, step};
 use fsl_base::List;
@@ -22,37 +23,49 @@ use fsl_core::{Act, Stmt};
 use std::alloc::{AllocError, Global};
 
 /// What comes next on a path.
-#[tactic(auto, using(crate::proofs::Stacking::none_first))]
+#[tactic(auto, using(crate::proofs::ContinuationLemmas::none_first))]
 pub fn next<'a>(
     alloc: Global,
     job: &Job<'_>,
     state: State,
-    rest: Rest<'a>,
+    continuation: Continuation<'a>,
 ) -> Result<List<Pending<'a>>, AllocError>
-    requires post { IsTrue (assertions.is_built job.now.proc.now.post) }
-    requires procs { IsTrue (list_all is_built_proc job.now.program.now.procs) }
-    requires rest { IsTrue (is_built_left (left_of rest)) }
-    ensures { IfOk result (λ ps. map item_of ps ≡ next job.now (goes_on state (left_of rest.entry))) }
+    requires post { IsTrue (assertions.is_supported job.now.proc.now.post) }
+    requires procs { IsTrue (list_all is_supported_proc job.now.program.now.procs) }
+    requires continuation { IsTrue (is_supported_continuation (continuation_of continuation)) }
+    ensures { IfOk result (λ ps. map item_of ps ≡ next job.now (goes_on state (continuation_of continuation.entry))) }
 {
-    let Rest { mut levels, exit } = rest;
-    match levels.pop() {
-        Some(Level::Block { stmts, declared }) => {
-            block(alloc, job, state, stmts, declared, Rest { levels, exit })
+    let Continuation { mut frames, exit } = continuation;
+    match frames.pop() {
+        Some(Frame::Block { stmts, declared }) => {
+            block(
+                alloc,
+                job,
+                state,
+                stmts,
+                declared,
+                Continuation { frames, exit },
+            )
         }
-        Some(Level::Loop { round }) => turn(alloc, state, &round, &Rest { levels, exit }),
+        Some(Frame::Loop { entered }) => turn(
+            alloc,
+            state,
+            &entered,
+            &Continuation { frames, exit },
+        ),
         None => leave(alloc, job, state, &exit),
     }
 }
 
-/// What comes next behind the last level.
+/// What comes next behind the last frame.
 fn leave<'a>(
     alloc: Global,
     job: &Job<'_>,
     state: State,
     exit: &Exit<'_>,
 ) -> Result<List<Pending<'a>>, AllocError>
-    requires post { IsTrue (assertions.is_built job.now.proc.now.post) }
-    requires exit { IsTrue (is_built_leaving (leaving_of exit.now)) }
+    requires post { IsTrue (assertions.is_supported job.now.proc.now.post) }
+    requires exit { IsTrue (is_supported_leaving (leaving_of exit.now)) }
     ensures { IfOk result (λ ps. map item_of ps ≡ next_exit job.now state (leaving_of exit.now)) }
 {
     match exit {
@@ -67,22 +80,22 @@ fn leave<'a>(
     }
 }
 
-/// What comes next of a loop: a round on paths of their own, and then what is behind the loop.
+/// What comes next of a loop: a turn on paths of their own, and then what is behind the loop.
 fn turn<'a>(
     alloc: Global,
     state: State,
-    x: &Round<'a>,
-    up: &Rest<'a>,
+    x: &Loop<'a>,
+    up: &Continuation<'a>,
 ) -> Result<List<Pending<'a>>, AllocError>
-    requires { IsTrue (assertions.is_built x.now.inv.now) }
-    ensures { IfOk result (λ ps. map item_of ps ≡ next_turn x.now.at x.now.cond.now x.now.inv.now x.now.body.now x.now.declared state (left_of up.now)) }
+    requires { IsTrue (assertions.is_supported x.now.inv.now) }
+    ensures { IfOk result (λ ps. map item_of ps ≡ next_turn x.now.at x.now.cond.now x.now.inv.now x.now.body.now x.now.declared state (continuation_of up.now)) }
 {
     let inside = at_body(alloc, &state, x)?;
     let back = Exit::Back {
         at: x.at,
         inv: x.inv,
     };
-    let body = Rest::body(alloc, x.body, x.declared, back)?;
+    let body = Continuation::body(alloc, x.body, x.declared, back)?;
     let mut out = each(alloc, x.at, inside, &body)?;
     let behind = at_round(alloc, state, x, false)?;
     out.append(each(alloc, x.at, behind, up)?)?;
@@ -96,24 +109,27 @@ fn block<'a>(
     state: State,
     stmts: &'a [Stmt],
     declared: u64,
-    up: Rest<'a>,
+    up: Continuation<'a>,
 ) -> Result<List<Pending<'a>>, AllocError>
-    requires post { IsTrue (assertions.is_built job.now.proc.now.post) }
-    requires procs { IsTrue (list_all is_built_proc job.now.program.now.procs) }
-    requires stmts { IsTrue (are_built stmts.now) }
-    ensures { IfOk result (λ ps. map item_of ps ≡ next_block job.now state stmts.now declared (left_of up.entry)) }
+    requires post { IsTrue (assertions.is_supported job.now.proc.now.post) }
+    requires procs { IsTrue (list_all is_supported_proc job.now.program.now.procs) }
+    requires stmts { IsTrue (are_supported stmts.now) }
+    ensures { IfOk result (λ ps. map item_of ps ≡ next_block job.now state stmts.now declared (continuation_of up.entry)) }
 {
     match stmts.split_first() {
         Some((stmt, others)) => {
-            let rest = up.with(Level::Block {
+            let continuation = up.with(Frame::Block {
                 stmts: others,
                 declared: past(declared, &stmt.act),
             })?;
-            statement(alloc, job, state, stmt, declared, rest)
+            statement(alloc, job, state, stmt, declared, continuation)
         }
         None => {
             let mut out = List::new(alloc);
-            out.push(Pending::Goes { state, rest: up })?;
+            out.push(Pending::Goes {
+                state,
+                continuation: up,
+            })?;
             Ok(out)
         }
     }
@@ -126,43 +142,43 @@ fn statement<'a>(
     state: State,
     stmt: &'a Stmt,
     declared: u64,
-    rest: Rest<'a>,
+    continuation: Continuation<'a>,
 ) -> Result<List<Pending<'a>>, AllocError>
-    requires post { IsTrue (assertions.is_built job.now.proc.now.post) }
-    requires procs { IsTrue (list_all is_built_proc job.now.program.now.procs) }
-    requires built { IsTrue (is_built_act stmt.now.act) }
-    ensures { IfOk result (λ ps. map item_of ps ≡ next_stmt job.now stmt.now declared state (left_of rest.entry)) }
+    requires post { IsTrue (assertions.is_supported job.now.proc.now.post) }
+    requires procs { IsTrue (list_all is_supported_proc job.now.program.now.procs) }
+    requires supported { IsTrue (is_supported_act stmt.now.act) }
+    ensures { IfOk result (λ ps. map item_of ps ≡ next_stmt job.now stmt.now declared state (continuation_of continuation.entry)) }
 {
     if is_simple(&stmt.act) {
         let went = step(alloc, state, &stmt.act)?;
-        return one(alloc, stmt.span, went, rest);
+        return one(alloc, stmt.span, went, continuation);
     }
     match &stmt.act {
         Act::Call { slot, proc, args } => {
             let called = call(alloc, job.program, state, *slot, *proc, args.as_slice())?;
-            each(alloc, stmt.span, called, &rest)
+            each(alloc, stmt.span, called, &continuation)
         }
         Act::Par { calls } => {
             let joined = par(alloc, job.program, state, calls.as_slice())?;
-            each(alloc, stmt.span, joined, &rest)
+            each(alloc, stmt.span, joined, &continuation)
         }
         Act::If { cond, yes, no } => {
             let sides = decide(alloc, state, cond)?;
             let yes = yes.as_slice();
             let no = no.as_slice();
-            each_side(alloc, stmt.span, sides, yes, no, declared, &rest)
+            each_side(alloc, stmt.span, sides, yes, no, declared, &continuation)
         }
         Act::While { cond, inv, body } => {
             let given = give_inv(alloc, state, inv)?;
-            let round = Round {
+            let entered = Loop {
                 at: stmt.span,
                 cond,
                 inv,
                 body: body.as_slice(),
                 declared,
             };
-            let rest = rest.with(Level::Loop { round })?;
-            each(alloc, stmt.span, given, &rest)
+            let continuation = continuation.with(Frame::Loop { entered })?;
+            each(alloc, stmt.span, given, &continuation)
         }
         Act::Return { e } => {
             let finished = return_with(alloc, state, &job.proc.post, e)?;

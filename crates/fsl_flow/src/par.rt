@@ -9,8 +9,8 @@ ghost use Rattle.fsl_core.specs.logic.Assertions.{asrt_of};
 ghost use Rattle.fsl_core.specs.logic.Locations.{setting_of};
 ghost use Rattle.fsl_core.specs.logic.Calls as rules;
 ghost use Rattle.fsl_core.specs.logic.Calls.{call_of};
-ghost use Rattle.fsl_asrt.specs.Branches.{branches, bounds};
-ghost use Rattle.fsl_flow.specs.Built.{is_built_proc};
+ghost use Rattle.fsl_asrt.specs.Branch.{branches, bounds};
+ghost use Rattle.fsl_flow.specs.Supported.{is_supported_proc};
 ghost use Rattle.fsl_flow.specs.Calls.{started_with, start_one, join_one, running_of, starts};
 
 use crate::calls::{arguments, gain_post, going, procedure};
@@ -23,14 +23,14 @@ use fsl_core::{Called, Kind, Mood, Program, Rung};
 use std::alloc::{AllocError, Global};
 
 /// Threads side by side: the terms of all calls, then every `requires`, and then every `ensures`.
-#[tactic(auto, using(crate::proofs::Threading::par_read, crate::proofs::Threading::par_wide))]
+#[tactic(auto, using(crate::proofs::ParLemmas::par_read, crate::proofs::ParLemmas::par_wide))]
 pub fn par(
     alloc: Global,
     p: &Program,
     state: State,
     calls: &[Called],
 ) -> Result<List<Branch>, AllocError>
-    requires { IsTrue (list_all is_built_proc p.now.procs) }
+    requires { IsTrue (list_all is_supported_proc p.now.procs) }
     ensures { IfOk result (λ bs. branches bs ≡ rules.par (setting_of asrt_of p.now) (map (call_of expr_of) calls.now) state) }
 {
     match with_args(alloc, p, &state, calls)? {
@@ -43,14 +43,14 @@ pub fn par(
 }
 
 /// The procedures of calls with their arguments; `None` where one of these has no term.
-#[tactic(auto, using(crate::proofs::Threading::calls_wide, crate::proofs::Threading::calls_done))]
+#[tactic(auto, using(crate::proofs::ParLemmas::calls_wide, crate::proofs::ParLemmas::calls_done))]
 fn with_args<'a>(
     alloc: Global,
     p: &'a Program,
     state: &State,
     calls: &[Called],
 ) -> Result<Option<List<Running<'a>>>, AllocError>
-    requires { IsTrue (list_all is_built_proc p.now.procs) }
+    requires { IsTrue (list_all is_supported_proc p.now.procs) }
     ensures { IfOk result (λ xs. demand_some kind.Term (option_map (map running_of) xs) state.now ≡ rules.with_args (setting_of asrt_of p.now) (map (call_of expr_of) calls.now) state.now.env state.now) }
 {
     let mut out = List::new(alloc);
@@ -71,7 +71,7 @@ fn add_running<'a>(
     args: Env,
     before: List<Running<'a>>,
 ) -> Result<List<Running<'a>>, AllocError>
-    requires { IsTrue (list_all is_built_proc p.now.procs) }
+    requires { IsTrue (list_all is_supported_proc p.now.procs) }
     ensures { IfOk result (λ xs. map running_of xs ≡ map running_of before.entry ++ rules.running (slice_get (setting_of asrt_of p.now).procs number) args []) }
 {
     let mut out = before;
@@ -83,7 +83,7 @@ fn add_running<'a>(
 }
 
 /// Every `requires` is consumed, one after the other.
-#[tactic(auto, using(crate::proofs::Threading::starts_first))]
+#[tactic(auto, using(crate::proofs::ParLemmas::starts_first))]
 fn start_each<'a>(
     alloc: Global,
     state: State,
@@ -124,7 +124,7 @@ fn start_on_each<'a>(
 }
 
 /// The `requires` of a procedure is consumed behind others.
-#[tactic(auto, using(crate::proofs::Building::pre_built))]
+#[tactic(auto, using(crate::proofs::SupportedLemmas::pre_supported))]
 fn start_one<'a>(
     alloc: Global,
     state: State,
@@ -191,7 +191,7 @@ fn join_all(alloc: Global, started: List<Started<'_>>) -> Result<List<Branch>, A
 }
 
 /// Every `ensures` is produced, one after the other.
-#[tactic(auto, using(crate::proofs::Threading::joins_first))]
+#[tactic(auto, using(crate::proofs::ParLemmas::joins_first))]
 fn join_each(
     alloc: Global,
     state: State,
@@ -225,7 +225,7 @@ fn join_on_each(
 }
 
 /// The `ensures` of a procedure is produced, with a new symbol for its result.
-#[tactic(auto, using(crate::proofs::Following::then_goes, crate::proofs::Following::then_fails))]
+#[tactic(auto, using(fsl_asrt::proofs::Laws::then_goes, fsl_asrt::proofs::Laws::then_fails))]
 fn join_one(alloc: Global, state: State, x: &Running<'_>) -> Result<List<Branch>, AllocError>
     ensures { IfOk result (λ bs. branches bs ≡ join_one (running_of x.now) state) }
 {

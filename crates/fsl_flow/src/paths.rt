@@ -5,16 +5,16 @@ ghost use Rattle.std.specs.List.{flat_map, list_all};
 ghost use Rattle.std.specs.Option.{option_map};
 ghost use Rattle.fsl_core.specs.Verdicts.{outcome_from};
 ghost use Rattle.fsl_core.specs.logic.Verdicts.{outcome_of};
-ghost use Rattle.fsl_asrt.specs.Built as assertions;
-ghost use Rattle.fsl_flow.specs.Built.{is_built, is_built_proc};
-ghost use Rattle.fsl_flow.specs.Places.{item_of, stack};
-ghost use Rattle.fsl_flow.specs.Rests.{item_ends, is_built_item};
+ghost use Rattle.fsl_asrt.specs.Supported as assertions;
+ghost use Rattle.fsl_flow.specs.Supported.{is_supported, is_supported_proc};
+ghost use Rattle.fsl_flow.specs.Pending.{item_of, stack};
+ghost use Rattle.fsl_flow.specs.Paths.{item_ends, is_supported_item};
 
+use crate::continuation::{Continuation, Exit};
 use crate::contract::enter;
 use crate::job::Job;
 use crate::next::next;
 use crate::pending::{Pending, each};
-use crate::rest::{Exit, Rest};
 use fsl_base::{List, Span};
 use fsl_core::{Kind, Outcome, Program};
 use std::alloc::{AllocError, Global};
@@ -27,9 +27,9 @@ const NOWHERE: Span = Span { from: 0, to: 0 };
 
 /// The outcome of a procedure, by its number: its first failure, else how many paths it has. The 65537th path that
 /// ends fails `Paths` unless it fails by itself.
-#[tactic(auto, using(crate::proofs::Building::proc_built, crate::proofs::Building::procs_built))]
+#[tactic(auto, using(crate::proofs::SupportedLemmas::proc_supported, crate::proofs::SupportedLemmas::procs_supported))]
 pub fn outcome(alloc: Global, p: &Program, proc: u32) -> Result<Outcome, AllocError>
-    requires built { IsTrue (is_built p.now) }
+    requires supported { IsTrue (is_supported p.now) }
     requires in_range { proc < length p.now.procs }
     ensures { IfOk result (λ o. option_map (outcome_of p.now proc) (slice_get p.now.procs proc) ≡ Some o) }
 {
@@ -43,22 +43,22 @@ pub fn outcome(alloc: Global, p: &Program, proc: u32) -> Result<Outcome, AllocEr
 
 /// The outcome of a procedure.
 fn judge(alloc: Global, job: &Job<'_>) -> Result<Outcome, AllocError>
-    requires proc { IsTrue (is_built_proc job.now.proc.now) }
-    requires procs { IsTrue (list_all is_built_proc job.now.program.now.procs) }
+    requires proc { IsTrue (is_supported_proc job.now.proc.now) }
+    requires procs { IsTrue (list_all is_supported_proc job.now.program.now.procs) }
     ensures { IfOk result (λ o. o ≡ outcome_of job.now.program.now job.now.number job.now.proc.now) }
 {
     let branches = enter(alloc, job.proc)?;
     let closing = Exit::Closing { at: job.proc.last };
-    let body = Rest::body(alloc, job.proc.body.as_slice(), 0, closing)?;
+    let body = Continuation::body(alloc, job.proc.body.as_slice(), 0, closing)?;
     let first = each(alloc, NOWHERE, branches, &body)?;
     walk(alloc, job, first)
 }
 
 /// Follows what waits, one after the other.
 fn walk(alloc: Global, job: &Job<'_>, first: List<Pending<'_>>) -> Result<Outcome, AllocError>
-    requires post { IsTrue (assertions.is_built job.now.proc.now.post) }
-    requires procs { IsTrue (list_all is_built_proc job.now.program.now.procs) }
-    requires built { IsTrue (list_all is_built_item (map item_of first)) }
+    requires post { IsTrue (assertions.is_supported job.now.proc.now.post) }
+    requires procs { IsTrue (list_all is_supported_proc job.now.program.now.procs) }
+    requires supported { IsTrue (list_all is_supported_item (map item_of first)) }
     ensures { IfOk result (λ o. o ≡ outcome_from job.now.number 0 (flat_map (item_ends job.now) (map item_of first.entry))) }
 {
     let mut pending = List::new(alloc);
@@ -66,8 +66,11 @@ fn walk(alloc: Global, job: &Job<'_>, first: List<Pending<'_>>) -> Result<Outcom
     let mut count = 0u32;
     while let Some(top) = pending.pop() {
         match top {
-            Pending::Goes { state, rest } => {
-                let more = next(alloc, job, state, rest)?;
+            Pending::Goes {
+                state,
+                continuation,
+            } => {
+                let more = next(alloc, job, state, continuation)?;
                 lay(&mut pending, more)?;
             }
             Pending::Ends { at } => {
@@ -93,7 +96,7 @@ fn walk(alloc: Global, job: &Job<'_>, first: List<Pending<'_>>) -> Result<Outcom
 }
 
 /// Lays more on a stack, the first on top.
-#[tactic(auto, using(crate::proofs::Stacking::last_first))]
+#[tactic(auto, using(crate::proofs::ContinuationLemmas::last_first))]
 fn lay<'a>(pending: &mut List<Pending<'a>>, more: List<Pending<'a>>) -> Result<(), AllocError>
     ensures { OnOk result (stack pending.new ≡ map item_of more.entry ++ stack pending.old) }
 {

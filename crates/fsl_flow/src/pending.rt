@@ -1,11 +1,12 @@
 //! What waits to be followed: the branches of rules, each with what is left of its path.
 ghost use Rattle.std.specs.Prelude.{◌≡◌, map, IfOk};
-ghost use Rattle.fsl_chunk.specs.Branches as chunks;
-ghost use Rattle.fsl_asrt.specs.Branches.{branches, decided};
-ghost use Rattle.fsl_flow.specs.Places.{left_of, item_of};
+ghost use Rattle.fsl_chunk.specs.Went as chunks;
+ghost use Rattle.fsl_asrt.specs.Branch.{branches, decided};
+ghost use Rattle.fsl_flow.specs.Continuation.{continuation_of};
+ghost use Rattle.fsl_flow.specs.Pending.{item_of};
 ghost use Rattle.fsl_flow.specs.Next.{goes_to, goes_to_side, ends_at};
 
-use crate::rest::{Level, Rest};
+use crate::continuation::{Continuation, Frame};
 use fsl_asrt::{Branch, Decided};
 use fsl_base::{List, Span};
 use fsl_chunk::{State, Went};
@@ -16,11 +17,19 @@ use std::alloc::{AllocError, Global};
 #[derive(Drop)]
 pub enum Pending<'a> {
     /// A state, and what is left of its path.
-    Goes { state: State, rest: Rest<'a> },
+    Goes {
+        state: State,
+        continuation: Continuation<'a>,
+    },
     /// A path that ends at this place.
-    Ends { at: Span },
+    Ends {
+        at: Span,
+    },
     /// A path that fails at this place.
-    Fails { at: Span, kind: Kind },
+    Fails {
+        at: Span,
+        kind: Kind,
+    },
 }
 
 /// What a rule with at most one branch goes on with.
@@ -28,14 +37,17 @@ pub fn one<'a>(
     alloc: Global,
     at: Span,
     went: Went,
-    rest: Rest<'a>,
+    continuation: Continuation<'a>,
 ) -> Result<List<Pending<'a>>, AllocError>
-    ensures { IfOk result (λ ps. map item_of ps ≡ goes_to at (chunks.branches went) (left_of rest.entry)) }
+    ensures { IfOk result (λ ps. map item_of ps ≡ goes_to at (chunks.branches went) (continuation_of continuation.entry)) }
 {
     let mut out = List::new(alloc);
     match went {
-        Went::Goes { state } => out.push(Pending::Goes { state, rest })?,
-        Went::Gone => {}
+        Went::Goes { state } => out.push(Pending::Goes {
+            state,
+            continuation,
+        })?,
+        Went::Infeasible => {}
         Went::Fails { kind } => out.push(Pending::Fails { at, kind })?,
     }
     Ok(out)
@@ -46,16 +58,19 @@ pub fn each<'a>(
     alloc: Global,
     at: Span,
     going: List<Branch>,
-    rest: &Rest<'a>,
+    continuation: &Continuation<'a>,
 ) -> Result<List<Pending<'a>>, AllocError>
-    ensures { IfOk result (λ ps. map item_of ps ≡ goes_to at (branches going) (left_of rest.now)) }
+    ensures { IfOk result (λ ps. map item_of ps ≡ goes_to at (branches going) (continuation_of continuation.now)) }
 {
     let mut out = List::new(alloc);
     for branch in going.into_vec() {
         match branch {
             Branch::Goes { state } => {
-                let rest = rest.copy(alloc)?;
-                out.push(Pending::Goes { state, rest })?;
+                let continuation = continuation.copy(alloc)?;
+                out.push(Pending::Goes {
+                    state,
+                    continuation,
+                })?;
             }
             Branch::Fails { kind } => out.push(Pending::Fails { at, kind })?,
         }
@@ -71,17 +86,22 @@ pub fn each_side<'a>(
     yes: &'a [Stmt],
     no: &'a [Stmt],
     declared: u64,
-    rest: &Rest<'a>,
+    continuation: &Continuation<'a>,
 ) -> Result<List<Pending<'a>>, AllocError>
-    ensures { IfOk result (λ ps. map item_of ps ≡ goes_to_side at (decided sides) yes.now no.now declared (left_of rest.now)) }
+    ensures { IfOk result (λ ps. map item_of ps ≡ goes_to_side at (decided sides) yes.now no.now declared (continuation_of continuation.now)) }
 {
     let mut out = List::new(alloc);
     for side in sides.into_vec() {
         match side {
             Decided::Goes { state, holds } => {
                 let stmts = if holds { yes } else { no };
-                let rest = rest.copy(alloc)?.with(Level::Block { stmts, declared })?;
-                out.push(Pending::Goes { state, rest })?;
+                let continuation = continuation
+                    .copy(alloc)?
+                    .with(Frame::Block { stmts, declared })?;
+                out.push(Pending::Goes {
+                    state,
+                    continuation,
+                })?;
             }
             Decided::Fails { kind } => out.push(Pending::Fails { at, kind })?,
         }

@@ -4,7 +4,7 @@ ghost use Rattle.fsl_core.specs.logic.Terms.{expr_of};
 ghost use Rattle.fsl_core.specs.logic.Deciding.{cond_of, cond_says};
 ghost use Rattle.fsl_core.specs.logic.Producing.{pat_of, pat_says};
 ghost use Rattle.fsl_core.specs.logic.Assertions.{asrt_of};
-ghost use Rattle.fsl_asrt.specs.Built.{is_built};
+ghost use Rattle.fsl_asrt.specs.Supported.{is_supported};
 
 use fsl_core::{Asrt, Cond, Expr, Pat};
 
@@ -60,7 +60,7 @@ fn pat_says(pat: &Pat) -> bool
 
 /// Whether an assertion speaks of the result. It takes no memory.
 pub fn says(a: &Asrt) -> bool
-    requires { IsTrue (is_built a.now) }
+    requires { IsTrue (is_supported a.now) }
     ensures { result ≡ (asrt_of a.now).says }
 {
     match a {

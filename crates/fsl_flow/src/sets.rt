@@ -52,7 +52,7 @@ fn with(declared: u64, slot: u32) -> u64
 
 /// The slot of this number, where an act sets it.
 #[cycle(set_in)]
-#[tactic(auto, using(crate::proofs::Slots::any_append))]
+#[tactic(auto, using(crate::proofs::SetsLemmas::any_append))]
 fn set_in(act: &Act, number: u64) -> Option<u32>
     ensures found { is_some result ≡ list_any (λ slot. slot == number) (act_sets act.now) }
     ensures is { IfSome result (λ slot. slot ≡ number) }

@@ -4,10 +4,10 @@ ghost use Rattle.fsl_core.specs.logic.Terms.{expr_of};
 ghost use Rattle.fsl_core.specs.logic.Deciding.{cond_of};
 ghost use Rattle.fsl_core.specs.logic.Accesses.{alloc_na, load_na, store_na};
 ghost use Rattle.fsl_core.specs.logic.Paths.{set_to, assert, print};
-ghost use Rattle.fsl_chunk.specs.Branches.{branches};
-ghost use Rattle.fsl_flow.specs.Simple.{is_simple, action_of};
+ghost use Rattle.fsl_chunk.specs.Went.{branches};
+ghost use Rattle.fsl_flow.specs.Statements.{is_simple, action_of};
 
-use crate::accesses::{alloc_na, load_na, store_na};
+use fsl_access::{alloc_na, load_na, store_na};
 use fsl_asrt::{demand_cond, read};
 use fsl_chunk::{State, Went};
 use fsl_core::{Act, Cond, Expr, Kind, Mode};
@@ -29,7 +29,7 @@ pub fn is_simple(act: &Act) -> bool
 }
 
 /// A variable is set to the term of an expression.
-#[tactic(auto, using(crate::proofs::Ending::set_some, crate::proofs::Ending::set_none))]
+#[tactic(auto, using(crate::proofs::StatementsLemmas::set_some, crate::proofs::StatementsLemmas::set_none))]
 fn set_to(alloc: Global, state: State, slot: u32, e: &Expr) -> Result<Went, AllocError>
     ensures { IfOk result (λ went. branches went ≡ set_to slot (expr_of e.now) state) }
 {
@@ -44,7 +44,7 @@ fn set_to(alloc: Global, state: State, slot: u32, e: &Expr) -> Result<Went, Allo
 }
 
 /// A condition that has to be proved.
-#[tactic(auto, using(crate::proofs::Contracting::asserted))]
+#[tactic(auto, using(crate::proofs::StatementsLemmas::asserted))]
 fn assert(alloc: Global, state: State, cond: &Cond) -> Result<Went, AllocError>
     ensures { IfOk result (λ went. branches went ≡ assert (cond_of expr_of cond.now) state) }
 {
@@ -53,7 +53,7 @@ fn assert(alloc: Global, state: State, cond: &Cond) -> Result<Went, AllocError>
 }
 
 /// A number is printed, which has to have a term.
-#[tactic(auto, using(crate::proofs::Ending::print_some, crate::proofs::Ending::print_none))]
+#[tactic(auto, using(crate::proofs::StatementsLemmas::print_some, crate::proofs::StatementsLemmas::print_none))]
 fn print(alloc: Global, state: State, e: &Expr) -> Result<Went, AllocError>
     ensures { IfOk result (λ went. branches went ≡ print (expr_of e.now) state) }
 {

@@ -2,8 +2,8 @@
 ghost use Rattle.std.specs.Prelude.{◌≡◌, ◌≤◌, ◌<◌, IfOk, IsTrue, length, slice_get, Some};
 ghost use Rattle.fsl_core.specs.logic.Paths.{ends_of};
 ghost use Rattle.fsl_core.specs.logic.Verdicts.{outcomes, verdict_of};
-ghost use Rattle.fsl_flow.specs.Built.{is_built};
-ghost use Rattle.fsl_sound.specs.Covered.{IsCovered};
+ghost use Rattle.fsl_flow.specs.Supported.{is_supported};
+ghost use Rattle.fsl_sound.specs.Supported.{IsSupported};
 
 use fsl_base::Gate;
 use fsl_check::{Work, check_all};
@@ -12,12 +12,12 @@ use fsl_flow::outcome;
 use std::alloc::{AllocError, Global};
 use std::thread::Threads;
 
-/// The procedures of a program that the rules cover, each a unit of work.
+/// The procedures of a program that the rules support, each a unit of work.
 #[derive(Clone, Copy)]
 struct Procedures<'a> {
     program: &'a Program,
     count: u32,
-    ghost covered: { IsCovered program.now },
+    ghost supported: { IsSupported program.now },
     ghost counted: { count ≡ length program.now.procs },
 }
 
@@ -45,7 +45,7 @@ pub fn judge<R: Threads + Sync, G: Gate>(
     workers: u32,
     gate: &G,
 ) -> Result<Verdict, AllocError>
-    requires covered { IsTrue (is_built p.now) }
+    requires supported { IsTrue (is_supported p.now) }
     requires some { 1 ≤ workers }
     requires few { workers ≤ 64 }
     ensures { IfOk result (λ v. v ≡ verdict_of p.now) }

@@ -198,7 +198,7 @@ fn assumptions(alloc: Global, branches: &List<Branch>, env: &Env) -> Result<Text
 fn demand(alloc: Global, state: State, cond: &Cond, env: &Env) -> Result<Text, AllocError> {
     match demand_cond(alloc, state, Kind::Assert, cond, env)? {
         Went::Goes { state } => Text::from_str(alloc, compared(&state, env)),
-        Went::Gone => Text::from_str(alloc, "absurd"),
+        Went::Infeasible => Text::from_str(alloc, "absurd"),
         Went::Fails { kind } => failure(alloc, kind),
     }
 }

@@ -1,9 +1,9 @@
 //! Outcomes of procedures: how many paths there are, or the first failure with its place.
 use crate::reading::program;
-use crate::starting::{no_program, not_built};
+use crate::starting::{no_program, not_supported};
 use fsl_base::Text;
 use fsl_core::{Kind, Outcome, Program};
-use fsl_flow::{built, outcome};
+use fsl_flow::{is_supported, outcome};
 use fsl_token::place;
 use std::alloc::{AllocError, Global};
 use std::process::Abort;
@@ -19,7 +19,7 @@ const OUTCOMES: &[&str] = &[
     "{\nassert (a < b);\n} => fails 2:1 Assert",
     "{\nprint(a * b);\n} => fails 2:1 Term",
     "{\nlet x = alloc na;\nassert (x >= 1);\nlet y = alloc na;\nassert (x != y);\n} => fails 5:1 Assert",
-    "{\nfree(a);\n} => not built",
+    "{\nfree(a);\n} => not supported",
     "requires (a |->[4] _) ensures (a |->[5] _) {\n} => fails 2:1 Share",
     "requires (a |-> 1) ensures (a |-> 2) {\n} => fails 2:1 Value",
     "requires (a |-> ?c) ensures (a |-> c + 1) {\nlet x = load na(a);\nstore na(a, x + 1);\n} => derived 1",
@@ -93,8 +93,8 @@ fn failure(alloc: Global, text: &str, at: u32, kind: Kind) -> Result<Text, Alloc
 
 /// The outcome of the first procedure of a program that is this text.
 fn judged(alloc: Global, text: &str, p: &Program) -> Result<Text, AllocError> {
-    if !built(p) || p.procs().is_empty() {
-        return not_built(alloc);
+    if !is_supported(p) || p.procs().is_empty() {
+        return not_supported(alloc);
     }
     match outcome(alloc, p, 0)? {
         Outcome::Derived { paths } => Ok(Text::from_string(format!(in alloc; "derived {paths}")?)),

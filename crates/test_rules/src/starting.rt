@@ -1,8 +1,8 @@
 //! Where a row starts: the states in which the `requires` of its procedure holds.
 ghost use Rattle.std.specs.Prelude.{IsTrue};
-ghost use Rattle.fsl_asrt.specs.Built.{is_built};
+ghost use Rattle.fsl_asrt.specs.Supported.{is_supported};
 
-use fsl_asrt::{Bound, constant, is_built, produce};
+use fsl_asrt::{Bound, constant, is_supported, produce};
 use fsl_base::{List, Text};
 use fsl_chunk::{Env, Made, State};
 use fsl_core::{Kind, Proc, Rung};
@@ -13,9 +13,9 @@ pub fn no_program(alloc: Global) -> Result<Text, AllocError> {
     Text::from_str(alloc, "no program")
 }
 
-/// The answer where a row's program isn't covered.
-pub fn not_built(alloc: Global) -> Result<Text, AllocError> {
-    Text::from_str(alloc, "not built")
+/// The answer where a row's program isn't supported.
+pub fn not_supported(alloc: Global) -> Result<Text, AllocError> {
+    Text::from_str(alloc, "not supported")
 }
 
 /// A state that knows nothing, with a new symbol for each parameter.
@@ -46,7 +46,7 @@ fn padded(alloc: Global, env: Env, proc: &Proc) -> Result<Env, AllocError> {
 
 /// The branches on which the `requires` of a procedure is produced at a rung.
 pub fn produced(alloc: Global, proc: &Proc, rung: Rung) -> Result<List<Bound>, AllocError>
-    requires { IsTrue (is_built proc.now.pre) }
+    requires { IsTrue (is_supported proc.now.pre) }
 {
     match parameters(alloc, proc)? {
         Bound::Goes { state, env } => {
@@ -59,7 +59,7 @@ pub fn produced(alloc: Global, proc: &Proc, rung: Rung) -> Result<List<Bound>, A
 
 /// The one state that a procedure starts in.
 pub fn only(alloc: Global, proc: &Proc) -> Result<Option<Bound>, AllocError> {
-    if !is_built(&proc.pre) {
+    if !is_supported(&proc.pre) {
         return Ok(None);
     }
     let mut branches = produced(alloc, proc, Rung::Plain)?;

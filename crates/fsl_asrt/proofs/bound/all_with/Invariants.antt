@@ -1,6 +1,6 @@
 use Rattle.std.proofs.Common.{◌≡◌, ◌++◌}
 use Rattle.fsl_core.specs.logic.States.{followed, give}
-use Rattle.fsl_asrt.specs.Branches.{branches, bounds}
+use Rattle.fsl_asrt.specs.Branch.{branches, bounds}
 use Rattle.fsl_asrt.proofs.bound.all_with.Given as goal
 
 abbrev pub invariant-loop-branch : goal.invariant-loop-branch

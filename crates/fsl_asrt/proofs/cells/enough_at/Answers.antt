@@ -2,7 +2,7 @@ use Rattle.std.proofs.Common.{◌≡◌, Option, Some, IfSome, slice_get}
 use Rattle.std.specs.Option.{option_map}
 use Rattle.fsl_asrt.specs.declared.cells.FoundCell.{FoundCell}
 use Rattle.fsl_asrt.specs.Cells.{IsFoundBy, cell_of, cell_in}
-use Rattle.fsl_asrt.proofs.FoundCells.{found_cell, enough_at_reads}
+use Rattle.fsl_asrt.proofs.CellsLemmas.{found_cell, enough_at_reads}
 use Rattle.fsl_asrt.proofs.Keeping.{ok_both}
 use Rattle.fsl_core.specs.logic.Chunks.{first, enough_at}
 use Rattle.fsl_asrt.proofs.cells.enough_at.Goals as goal

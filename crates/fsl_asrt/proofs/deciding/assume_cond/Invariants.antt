@@ -2,7 +2,7 @@ use Rattle.std.proofs.Common.{◌≡◌, ◌++◌}
 use Rattle.fsl_core.specs.logic.States.{followed, done}
 use Rattle.fsl_core.specs.logic.Terms.{expr_of}
 use Rattle.fsl_core.specs.logic.Deciding.{cond_of, assume_cond}
-use Rattle.fsl_asrt.specs.Branches.{branches, decided}
+use Rattle.fsl_asrt.specs.Branch.{branches, decided}
 use Rattle.fsl_asrt.proofs.deciding.assume_cond.Given as goal
 
 abbrev pub invariant-loop-branch : goal.invariant-loop-branch

@@ -2,9 +2,9 @@ use Rattle.std.proofs.Common.{◌≡◌, Bool, List, filter, Some, sym, ap, ◌�
 use Rattle.std.proofs.lemmas.Result.{IfOk-weaker}
 use Rattle.fsl_asrt.specs.declared.branch.Decided.{Decided}
 use Rattle.fsl_asrt.specs.Asked.{asked}
-use Rattle.fsl_asrt.specs.Branches.{decided}
+use Rattle.fsl_asrt.specs.Branch.{decided}
 use Rattle.fsl_asrt.specs.Sides.{sides_of}
-use Rattle.fsl_asrt.proofs.Laws.{assumed_by_sides, kept_sides}
+use Rattle.fsl_asrt.proofs.DecidingLemmas.{assumed_by_sides, kept_sides}
 use Rattle.fsl_core.specs.logic.States.{Branches, followed, done}
 use Rattle.fsl_core.specs.logic.Terms.{expr_of}
 use Rattle.fsl_core.specs.logic.Deciding as deciding

@@ -1,8 +1,8 @@
 use Rattle.std.proofs.Common.{Option, Some, sym, subst}
-use Rattle.fsl_chunk.specs.Branches.{branches}
+use Rattle.fsl_chunk.specs.Went.{branches}
 use Rattle.fsl_asrt.specs.declared.cells.FoundCell.{FoundCell}
 use Rattle.fsl_asrt.specs.Cells.{IsFoundBy, joined_at}
-use Rattle.fsl_asrt.proofs.Joining.{joined_first}
+use Rattle.fsl_asrt.proofs.JoinLemmas.{joined_first}
 use Rattle.fsl_asrt.proofs.Keeping.{ok_then}
 use Rattle.fsl_core.specs.logic.Chunks.{Cell, first, cell_at}
 use Rattle.fsl_core.specs.logic.Joining.{add_cell}

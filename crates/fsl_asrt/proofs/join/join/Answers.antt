@@ -1,5 +1,5 @@
 use Rattle.std.proofs.Common.{sym}
-use Rattle.fsl_chunk.specs.Branches.{branches}
+use Rattle.fsl_chunk.specs.Went.{branches}
 use Rattle.fsl_asrt.specs.Cells.{summed_at, joined_at}
 use Rattle.fsl_asrt.proofs.Keeping.{fits, ok_then}
 use Rattle.fsl_lin.specs.Combination.{Combination, plus}

@@ -1,5 +1,5 @@
 use Rattle.std.proofs.Common.{ap}
-use Rattle.fsl_asrt.specs.Branches.{branches, bounds}
+use Rattle.fsl_asrt.specs.Branch.{branches, bounds}
 use Rattle.fsl_asrt.proofs.Keeping.{ok_then}
 use Rattle.fsl_core.specs.logic.States.{Branches, followed, give}
 use Rattle.fsl_core.specs.logic.Terms.{expr_of}

@@ -1,6 +1,6 @@
 use Rattle.std.proofs.Common.{[], ◌∷◌, Option, Some, sym, ap, ◌∙◌}
 use Rattle.fsl_asrt.specs.declared.pointed.PointsTo.{PointsTo}
-use Rattle.fsl_asrt.specs.Branches.{bounds}
+use Rattle.fsl_asrt.specs.Branch.{bounds}
 use Rattle.fsl_asrt.specs.Pointed.{After, pointed}
 use Rattle.fsl_asrt.proofs.Keeping.{ok_then}
 use Rattle.fsl_core.specs.declared.verdict.Kind.TheVariants.{Term}

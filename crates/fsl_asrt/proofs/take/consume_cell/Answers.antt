@@ -1,8 +1,8 @@
 use Rattle.std.proofs.Common.{◌≡◌, [], ◌∷◌, pos, false, sym, ap, ◌∙◌}
-use Rattle.fsl_asrt.specs.Branches.{bounds}
+use Rattle.fsl_asrt.specs.Branch.{bounds}
 use Rattle.fsl_asrt.specs.Pointed.{wanted_of}
 use Rattle.fsl_asrt.proofs.Keeping.{ok_then}
-use Rattle.fsl_asrt.proofs.Taking.{not_one}
+use Rattle.fsl_asrt.proofs.TakeLemmas.{not_one}
 use Rattle.fsl_core.specs.declared.verdict.Kind.TheVariants.{Share}
 use Rattle.fsl_core.specs.logic.States.{fails}
 use Rattle.fsl_core.specs.logic.Deciding.{proves_at_most}

@@ -1,7 +1,7 @@
 use Rattle.std.proofs.Common.{◌≡◌, ◌++◌, ap, ◌∙◌}
 use Rattle.std.proofs.lemmas.List.{map-append}
-use Rattle.fsl_asrt.specs.Branches.{bound_of, bounds}
-use Rattle.fsl_asrt.specs.Taken.{none_left}
+use Rattle.fsl_asrt.specs.Branch.{bound_of, bounds}
+use Rattle.fsl_asrt.specs.Take.{none_left}
 use Rattle.fsl_core.specs.logic.States.{Env, State, Branches}
 use Rattle.fsl_asrt.proofs.take.either.Goals as goal
 

@@ -1,5 +1,5 @@
 use Rattle.std.proofs.Common.{sym, ◌∙◌}
-use Rattle.fsl_asrt.proofs.Taking.{is_held, not_held}
+use Rattle.fsl_asrt.proofs.TakeLemmas.{is_held, not_held}
 use Rattle.fsl_asrt.proofs.take.held.Goals as goal
 
 pub returns-then-proves_equal : goal.returns-then-proves_equal

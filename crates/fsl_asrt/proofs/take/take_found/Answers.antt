@@ -1,10 +1,10 @@
 use Rattle.std.proofs.Common.{◌≡◌, [], ◌∷◌, sym, subst}
 use Rattle.fsl_asrt.specs.declared.take.Search.{Search}
-use Rattle.fsl_asrt.specs.Branches.{bounds}
+use Rattle.fsl_asrt.specs.Branch.{bounds}
 use Rattle.fsl_asrt.specs.Pointed.{wanted_of}
-use Rattle.fsl_asrt.specs.Taken.{IsTheCell, IsSearched, taken_from}
+use Rattle.fsl_asrt.specs.Take.{IsTheCell, IsSearched, taken_from}
 use Rattle.fsl_asrt.proofs.Keeping.{ok_then}
-use Rattle.fsl_asrt.proofs.Taking.{consumed, not_found}
+use Rattle.fsl_asrt.proofs.TakeLemmas.{consumed, not_found}
 use Rattle.fsl_core.specs.logic.States.{fails}
 use Rattle.fsl_core.specs.logic.Consuming.{find_cell, consume_cell}
 use Rattle.fsl_asrt.proofs.take.take_found.Goals as goal

@@ -1,8 +1,8 @@
 use Rattle.std.proofs.Common.{Option, sym, ◌++◌, ◌∙◌}
-use Rattle.fsl_asrt.specs.Branches.{bounds}
-use Rattle.fsl_asrt.specs.Taken.{left, part_left, none_left, some_left, rest_taken}
+use Rattle.fsl_asrt.specs.Branch.{bounds}
+use Rattle.fsl_asrt.specs.Take.{left, part_left, none_left, some_left, rest_taken}
 use Rattle.fsl_asrt.proofs.Keeping.{ok_then}
-use Rattle.fsl_asrt.proofs.Taking.{rest_stays, rest_either}
+use Rattle.fsl_asrt.proofs.TakeLemmas.{rest_stays, rest_either}
 use Rattle.fsl_lin.specs.Combination.{Combination}
 use Rattle.fsl_asrt.proofs.take.take_rest.Goals as goal
 

@@ -1,6 +1,6 @@
 use Rattle.std.proofs.Common.{◌≡◌, drop, map}
 use Rattle.fsl_core.specs.logic.Terms.{expr_of, signed_term, sum_from, product_from}
-use Rattle.fsl_asrt.proofs.Parts.{part_of, term_of}
+use Rattle.fsl_asrt.proofs.TermsLemmas.{part_of, term_of}
 use Rattle.fsl_asrt.proofs.terms.+term.Given as goal
 
 abbrev pub decreases-term : goal.decreases-term

@@ -5,7 +5,7 @@ use Rattle.fsl_lin.specs.Facts.{rows}
 use Rattle.fsl_lin.specs.Numbers.{part, listed}
 use Rattle.fsl_lin.specs.Rows.{normal}
 use Rattle.fsl_lin.specs.Sizes.{IsSize}
-use Rattle.fsl_asrt.proofs.Slots.{number_is}
+use Rattle.fsl_asrt.proofs.TermsLemmas.{number_is}
 use Rattle.fsl_asrt.proofs.terms.constant_of.Goals as goal
 
 pub returns-then-is_constant : goal.returns-then-is_constant

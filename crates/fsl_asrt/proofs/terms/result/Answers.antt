@@ -1,7 +1,7 @@
 use Rattle.std.proofs.Common.{◌≡◌, pos, rules, sym, ◌∙◌}
 use Rattle.fsl_core.specs.logic.Terms.{last_or}
 use Rattle.fsl_lin.specs.Combination.{constant}
-use Rattle.fsl_asrt.proofs.Slots.{last_some, last_none}
+use Rattle.fsl_asrt.proofs.TermsLemmas.{last_some, last_none}
 use Rattle.fsl_asrt.proofs.terms.result.Goals as goal
 
 pub returns-in_ok-try_clone-in-Some : goal.returns-in_ok-try_clone-in-Some

@@ -1,6 +1,6 @@
 use Rattle.std.proofs.Common.{◌≡◌, pos, get_or, rules}
 use Rattle.fsl_lin.specs.Combination.{constant}
-use Rattle.fsl_asrt.proofs.Slots.{unset}
+use Rattle.fsl_asrt.proofs.TermsLemmas.{unset}
 use Rattle.fsl_asrt.proofs.terms.var.Goals as goal
 
 pub returns-in-None : goal.returns-in-None

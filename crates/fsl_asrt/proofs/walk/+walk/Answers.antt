@@ -1,11 +1,11 @@
 use Rattle.std.proofs.Common.{◌≡◌, ◌∷◌, ◌+◌, drop, refl, ap, ◌∙◌}
 use Rattle.std.proofs.Math.ListN.{drop_of_length-le}
-use Rattle.fsl_asrt.specs.Branches.{bounds}
-use Rattle.fsl_asrt.proofs.Walking.{level_of_choice, first_choice, next_item, rest_built, part_done, parts_done}
+use Rattle.fsl_asrt.specs.Branch.{bounds}
+use Rattle.fsl_asrt.proofs.WalkLemmas.{level_of_choice, first_choice, next_item, rest_supported, part_done, parts_done}
 use Rattle.fsl_core.specs.logic.Assertions.{asrt_of, choice}
 use Rattle.fsl_core.specs.logic.Terms.{expr_of}
 use Rattle.fsl_core.specs.logic.Deciding.{cond_of}
-use Rattle.fsl_asrt.specs.Ways.{by_way}
+use Rattle.fsl_asrt.specs.Walk.{by_way}
 use Rattle.fsl_asrt.proofs.walk.+walk.Goals as goal
 
 pub walk-loop-branch-init : goal.walk-loop-branch-init
@@ -31,7 +31,7 @@ walk-loop-part-preserved t c =
     let part = c.part-item.result in
     let d : drop i parts ≡ part ∷ drop (i + 1) parts = next_item parts i part c.loop-part-test.true c.part-item.is in
     record {
-      built = rest_built (drop i parts) (drop (i + 1) parts) part d c.loop-part.invariant.built;
+      supported = rest_supported (drop i parts) (drop (i + 1) parts) part d c.loop-part.invariant.supported;
       so_far = part_done c.args.way c.args.rung (drop i parts) (drop (i + 1) parts) part (bounds c.loop-part.branches) (bounds c.in_ok-branches-in-Both-2.branches)
           (by_way c.args.way (asrt_of c.args.a.now) c.args.rung c.args.env c.args.state) d c.in_ok-branches-in-Both-2.ensures c.loop-part.invariant.so_far;
     }

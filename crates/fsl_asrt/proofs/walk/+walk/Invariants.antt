@@ -3,9 +3,9 @@ use Rattle.std.specs.List.{list_all}
 use Rattle.fsl_core.specs.logic.States.{followed}
 use Rattle.fsl_core.specs.logic.Producing.{chosen}
 use Rattle.fsl_core.specs.logic.Assertions.{asrt_of}
-use Rattle.fsl_asrt.specs.Branches.{bounds, decided}
-use Rattle.fsl_asrt.specs.Built.{is_built}
-use Rattle.fsl_asrt.specs.Ways.{by_way, all_by}
+use Rattle.fsl_asrt.specs.Branch.{bounds, decided}
+use Rattle.fsl_asrt.specs.Supported.{is_supported}
+use Rattle.fsl_asrt.specs.Walk.{by_way, all_by}
 use Rattle.fsl_asrt.proofs.walk.+walk.Given as goal
 
 abbrev pub decreases-walk : goal.decreases-walk
@@ -25,7 +25,7 @@ invariant-walk-loop-branch l = record {
 
 abbrev pub invariant-walk-loop-part : goal.invariant-walk-loop-part
 invariant-walk-loop-part l = record {
-  built : list_all (λ part. part) (map is_built (drop l.part-index l.part-items)) ≡ true;
+  supported : list_all (λ part. part) (map is_supported (drop l.part-index l.part-items)) ≡ true;
   so_far : followed (bounds l.branches) (all_by l.way (map asrt_of (drop l.part-index l.part-items)) l.rung)
       ≡ by_way l.way (asrt_of l.a) l.rung l.fn.env l.fn.state;
 }

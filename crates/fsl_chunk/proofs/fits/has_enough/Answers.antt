@@ -1,4 +1,4 @@
-use Rattle.fsl_chunk.proofs.Fitting.{enough_reads}
+use Rattle.fsl_chunk.proofs.FitsLemmas.{enough_reads}
 use Rattle.fsl_chunk.proofs.fits.has_enough.Goals as goal
 
 pub returns-in-Points : goal.returns-in-Points

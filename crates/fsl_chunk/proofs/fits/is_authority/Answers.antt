@@ -1,4 +1,4 @@
-use Rattle.fsl_chunk.proofs.Fitting.{authority_reads}
+use Rattle.fsl_chunk.proofs.FitsLemmas.{authority_reads}
 use Rattle.fsl_chunk.proofs.fits.is_authority.Goals as goal
 
 pub returns-in-Auth : goal.returns-in-Auth

@@ -1,4 +1,4 @@
-use Rattle.fsl_chunk.proofs.Fitting.{cell_reads}
+use Rattle.fsl_chunk.proofs.FitsLemmas.{cell_reads}
 use Rattle.fsl_chunk.proofs.fits.is_cell.Goals as goal
 
 pub returns-in-Points : goal.returns-in-Points

@@ -1,4 +1,4 @@
-use Rattle.fsl_chunk.proofs.Fitting.{init_reads}
+use Rattle.fsl_chunk.proofs.FitsLemmas.{init_reads}
 use Rattle.fsl_chunk.proofs.fits.is_init.Goals as goal
 
 pub returns-in-Init : goal.returns-in-Init

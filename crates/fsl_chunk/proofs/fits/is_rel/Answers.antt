@@ -1,4 +1,4 @@
-use Rattle.fsl_chunk.proofs.Fitting.{rel_reads}
+use Rattle.fsl_chunk.proofs.FitsLemmas.{rel_reads}
 use Rattle.fsl_chunk.proofs.fits.is_rel.Goals as goal
 
 pub returns-in-Rel : goal.returns-in-Rel

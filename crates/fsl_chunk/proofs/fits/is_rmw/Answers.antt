@@ -1,4 +1,4 @@
-use Rattle.fsl_chunk.proofs.Fitting.{rmw_reads}
+use Rattle.fsl_chunk.proofs.FitsLemmas.{rmw_reads}
 use Rattle.fsl_chunk.proofs.fits.is_rmw.Goals as goal
 
 pub returns-in-RmwAcq : goal.returns-in-RmwAcq

@@ -1,4 +1,4 @@
-use Rattle.fsl_chunk.proofs.Fitting.{tokens_read}
+use Rattle.fsl_chunk.proofs.FitsLemmas.{tokens_read}
 use Rattle.fsl_chunk.proofs.fits.is_tokens.Goals as goal
 
 pub returns-in-Tok : goal.returns-in-Tok

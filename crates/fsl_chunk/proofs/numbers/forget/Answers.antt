@@ -1,6 +1,6 @@
 use Rattle.std.proofs.Common.{◌≡◌, ◌<◌, ◌++◌, length, get_or, take, drop, sym, ap, ◌∙◌, arith}
-use Rattle.fsl_chunk.specs.Lists.{without}
-use Rattle.fsl_chunk.proofs.InLists.{one_gone}
+use Rattle.fsl_chunk.specs.Numbers.{without}
+use Rattle.fsl_chunk.proofs.NumbersLemmas.{one_gone}
 use Rattle.fsl_chunk.proofs.numbers.forget.Goals as goal
 
 pub loop-at-preserved-then-number-gone : goal.loop-at-preserved-then-number-gone

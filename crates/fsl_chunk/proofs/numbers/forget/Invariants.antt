@@ -1,5 +1,5 @@
 use Rattle.std.proofs.Common.{◌≡◌, ◌-◌, ◌++◌, length, take, drop}
-use Rattle.fsl_chunk.specs.Lists.{without}
+use Rattle.fsl_chunk.specs.Numbers.{without}
 use Rattle.fsl_chunk.proofs.numbers.forget.Given as goal
 
 abbrev pub invariant-loop-at : goal.invariant-loop-at

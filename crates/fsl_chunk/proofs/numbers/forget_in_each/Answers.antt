@@ -1,6 +1,6 @@
 use Rattle.std.proofs.Common.{◌<◌, length, ap, ◌∙◌, arith}
-use Rattle.fsl_chunk.specs.Lists.{without}
-use Rattle.fsl_chunk.proofs.InLists.{one_changed}
+use Rattle.fsl_chunk.specs.Numbers.{without}
+use Rattle.fsl_chunk.proofs.NumbersLemmas.{one_changed}
 use Rattle.fsl_chunk.proofs.numbers.forget_in_each.Goals as goal
 
 pub loop-at-preserved : goal.loop-at-preserved

@@ -1,13 +1,13 @@
 use Rattle.std.proofs.Common.{◌≡◌}
 use Rattle.fsl_core.specs.logic.Verdicts.{verdict_of}
-use Rattle.fsl_flow.proofs.Straight.{built}
+use Rattle.fsl_flow.proofs.SupportedStraight.{supported}
 use Rattle.fsl_commands.specs.Check.{verdict_status}
 use Rattle.fsl_commands.proofs.RunLemmas.{runs_so}
 use Rattle.fsl_commands.proofs.run.judged.Goals as goal
 
 -- the paths of a straight program are followed
-pub judge-requires-clause-covered : goal.judge-requires-clause-covered
-judge-requires-clause-covered g c κs within = built c.args.loaded.program c.requires.supported
+pub judge-requires-clause-supported : goal.judge-requires-clause-supported
+judge-requires-clause-supported g c κs within = supported c.args.loaded.program c.requires.supported
 
 pub returns-then-status-eq0 : goal.returns-then-status-eq0
 returns-then-status-eq0 g c =

@@ -1,7 +1,7 @@
 use Rattle.std.proofs.Common.{map}
 use Rattle.fsl_core.specs.logic.Terms.{expr_of}
-use Rattle.fsl_flow.proofs.Calling.{args_first, args_more}
-use Rattle.fsl_flow.proofs.Ending.{has_term}
+use Rattle.fsl_flow.proofs.CallsLemmas.{args_first, args_more}
+use Rattle.fsl_asrt.proofs.Laws.{has_term}
 use Rattle.fsl_flow.proofs.calls.arguments.Goals as goal
 
 pub loop-e-init : goal.loop-e-init

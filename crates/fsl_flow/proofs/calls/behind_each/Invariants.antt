@@ -2,7 +2,7 @@ use Rattle.std.proofs.Common.{◌≡◌, ◌++◌}
 use Rattle.fsl_core.specs.logic.States.{followed}
 use Rattle.fsl_core.specs.logic.Assertions.{asrt_of}
 use Rattle.fsl_core.specs.logic.Locations.{contract_of}
-use Rattle.fsl_asrt.specs.Branches.{branches, bounds}
+use Rattle.fsl_asrt.specs.Branch.{branches, bounds}
 use Rattle.fsl_flow.specs.Calls.{behind_pre}
 use Rattle.fsl_flow.proofs.calls.behind_each.Given as goal
 

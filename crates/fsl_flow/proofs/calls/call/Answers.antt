@@ -2,8 +2,8 @@ use Rattle.std.proofs.Common.{◌≡◌, map, Option, IfOk, sym, ap, ◌∙◌, 
 use Rattle.fsl_core.specs.declared.verdict.Kind.TheVariants as kind
 use Rattle.fsl_core.specs.logic.States.{Env, Branches, demand_some}
 use Rattle.fsl_core.specs.logic.Terms.{expr_of}
-use Rattle.fsl_asrt.specs.Branches.{branches}
-use Rattle.fsl_flow.proofs.Calling.{called, called_none}
+use Rattle.fsl_asrt.specs.Branch.{branches}
+use Rattle.fsl_flow.proofs.CallsLemmas.{called, called_none}
 use Rattle.fsl_flow.proofs.calls.call.Goals as goal
 
 pub returns-in-Some-procedure : goal.returns-in-Some-procedure

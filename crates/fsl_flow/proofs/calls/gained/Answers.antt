@@ -2,8 +2,8 @@ use Rattle.std.proofs.Common.{◌≡◌, IfOk, subst}
 use Rattle.fsl_core.specs.logic.States.{Branches}
 use Rattle.fsl_core.specs.logic.Assertions.{asrt_of}
 use Rattle.fsl_core.specs.logic.Locations.{contract_of}
-use Rattle.fsl_asrt.specs.Branches.{branches}
-use Rattle.fsl_flow.proofs.Calling.{nothing_gained}
+use Rattle.fsl_asrt.specs.Branch.{branches}
+use Rattle.fsl_flow.proofs.CallsLemmas.{nothing_gained}
 use Rattle.fsl_flow.proofs.calls.gained.Goals as goal
 
 pub returns-in-None : goal.returns-in-None

@@ -1,6 +1,6 @@
 use Rattle.std.proofs.Common.{Some}
-use Rattle.fsl_asrt.specs.Branches.{branches}
-use Rattle.fsl_flow.proofs.Calling.{nothing_set}
+use Rattle.fsl_asrt.specs.Branch.{branches}
+use Rattle.fsl_flow.proofs.CallsLemmas.{nothing_set}
 use Rattle.fsl_flow.proofs.calls.set_each.Goals as goal
 
 pub returns-in-None : goal.returns-in-None

@@ -1,7 +1,7 @@
 use Rattle.std.proofs.Common.{[], ◌∷◌, ◌∙◌, ap, sym}
 use Rattle.fsl_core.specs.logic.States.{Env, goes}
-use Rattle.fsl_chunk.specs.Branches.{branches_made}
-use Rattle.fsl_flow.proofs.Following.{symbols_goes}
+use Rattle.fsl_chunk.specs.Went.{branches_made}
+use Rattle.fsl_flow.proofs.ContractLemmas.{symbols_goes}
 use Rattle.fsl_flow.proofs.contract.new_symbols.Goals as goal
 
 pub loop-param-preserved : goal.loop-param-preserved

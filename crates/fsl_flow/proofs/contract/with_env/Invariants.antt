@@ -1,6 +1,6 @@
 use Rattle.std.proofs.Common.{◌≡◌, ◌++◌}
 use Rattle.fsl_core.specs.logic.States.{followed, change}
-use Rattle.fsl_asrt.specs.Branches.{branches, bounds}
+use Rattle.fsl_asrt.specs.Branch.{branches, bounds}
 use Rattle.fsl_flow.proofs.contract.with_env.Given as goal
 
 abbrev pub invariant-loop-branch : goal.invariant-loop-branch

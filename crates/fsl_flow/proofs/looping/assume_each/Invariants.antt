@@ -2,7 +2,7 @@ use Rattle.std.proofs.Common.{◌≡◌, ◌++◌}
 use Rattle.fsl_core.specs.logic.States.{followed}
 use Rattle.fsl_core.specs.logic.Terms.{expr_of}
 use Rattle.fsl_core.specs.logic.Deciding.{cond_of, assume_cond}
-use Rattle.fsl_asrt.specs.Branches.{branches, bounds}
+use Rattle.fsl_asrt.specs.Branch.{branches, bounds}
 use Rattle.fsl_flow.proofs.looping.assume_each.Given as goal
 
 abbrev pub invariant-loop-branch : goal.invariant-loop-branch

@@ -1,9 +1,9 @@
 use Rattle.std.proofs.Common.{◌≡◌, ℕ, ◌==◌, true, false, [], ◌∷◌, Option, is_some, IfSome, ◌∙◌, ap, sym, subst}
 use Rattle.std.specs.List.{list_any}
 use Rattle.fsl_core.specs.logic.States.{State, goes, set}
-use Rattle.fsl_chunk.specs.Branches.{branches_made}
+use Rattle.fsl_chunk.specs.Went.{branches_made}
 use Rattle.fsl_flow.specs.Sets.{stmts_set}
-use Rattle.fsl_flow.proofs.Following.{renew_goes, renew_skips}
+use Rattle.fsl_flow.proofs.LoopingLemmas.{renew_goes, renew_skips}
 use Rattle.fsl_flow.proofs.looping.renew.Goals.{in-Some+in_ok-state+in-Goes+in_ok-set-in-Goes, in_default}
 use Rattle.fsl_flow.proofs.looping.renew.Goals as goal
 

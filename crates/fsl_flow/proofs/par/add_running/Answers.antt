@@ -3,7 +3,7 @@ use Rattle.std.specs.Option.{option_copied}
 use Rattle.std.proofs.lemmas.List.{map-append}
 use Rattle.fsl_core.specs.logic.Calls as rules
 use Rattle.fsl_flow.specs.Calls.{running_of}
-use Rattle.fsl_flow.proofs.Threading.{found, not_found}
+use Rattle.fsl_flow.proofs.ParLemmas.{found, not_found}
 use Rattle.fsl_flow.proofs.par.add_running.Goals.{in-Some+in_ok-env+in_ok-push, in_default}
 use Rattle.fsl_flow.proofs.par.add_running.Goals as goal
 

@@ -1,7 +1,7 @@
 use Rattle.std.proofs.Common.{◌≡◌, ◌++◌}
 use Rattle.fsl_core.specs.logic.States.{followed}
 use Rattle.fsl_core.specs.logic.Calls.{join_each}
-use Rattle.fsl_asrt.specs.Branches.{branches}
+use Rattle.fsl_asrt.specs.Branch.{branches}
 use Rattle.fsl_flow.specs.Calls.{starts}
 use Rattle.fsl_flow.proofs.par.join_all.Given as goal
 

@@ -1,5 +1,5 @@
-use Rattle.fsl_asrt.specs.Branches.{branches}
-use Rattle.fsl_flow.proofs.Threading.{joins_more, joins_done}
+use Rattle.fsl_asrt.specs.Branch.{branches}
+use Rattle.fsl_flow.proofs.ParLemmas.{joins_more, joins_done}
 use Rattle.fsl_flow.proofs.par.join_each.Goals as goal
 
 pub loop-x-preserved : goal.loop-x-preserved

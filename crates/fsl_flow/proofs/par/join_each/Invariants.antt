@@ -1,7 +1,7 @@
 use Rattle.std.proofs.Common.{◌≡◌, drop, map}
 use Rattle.fsl_core.specs.logic.States.{followed}
 use Rattle.fsl_core.specs.logic.Calls.{join_each}
-use Rattle.fsl_asrt.specs.Branches.{branches}
+use Rattle.fsl_asrt.specs.Branch.{branches}
 use Rattle.fsl_flow.specs.Calls.{running_of}
 use Rattle.fsl_flow.proofs.par.join_each.Given as goal
 

@@ -1,6 +1,6 @@
 use Rattle.std.proofs.Common.{◌≡◌, ◌++◌}
 use Rattle.fsl_core.specs.logic.States.{followed}
-use Rattle.fsl_asrt.specs.Branches.{branches}
+use Rattle.fsl_asrt.specs.Branch.{branches}
 use Rattle.fsl_flow.specs.Calls.{join_one, running_of}
 use Rattle.fsl_flow.proofs.par.join_on_each.Given as goal
 

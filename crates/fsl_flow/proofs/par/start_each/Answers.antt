@@ -1,5 +1,5 @@
 use Rattle.fsl_flow.specs.Calls.{starts}
-use Rattle.fsl_flow.proofs.Threading.{starts_more, starts_done}
+use Rattle.fsl_flow.proofs.ParLemmas.{starts_more, starts_done}
 use Rattle.fsl_flow.proofs.par.start_each.Goals as goal
 
 pub loop-x-preserved : goal.loop-x-preserved

@@ -2,7 +2,7 @@ use Rattle.std.proofs.Common.{◌≡◌, drop, map}
 use Rattle.fsl_core.specs.logic.States.{followed}
 use Rattle.fsl_core.specs.logic.Calls.{start_each}
 use Rattle.fsl_flow.specs.Calls.{running_of, starts}
-use Rattle.fsl_flow.proofs.Threading.{start_behind}
+use Rattle.fsl_flow.proofs.ParLemmas.{start_behind}
 use Rattle.fsl_flow.proofs.par.start_each.Given as goal
 
 abbrev pub invariant-loop-x : goal.invariant-loop-x

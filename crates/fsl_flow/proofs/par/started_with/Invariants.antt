@@ -1,6 +1,6 @@
 use Rattle.std.proofs.Common.{◌≡◌, ◌++◌, map}
 use Rattle.fsl_core.specs.logic.States.{followed}
-use Rattle.fsl_asrt.specs.Branches.{bounds}
+use Rattle.fsl_asrt.specs.Branch.{bounds}
 use Rattle.fsl_flow.specs.Calls.{started_with, running_of, starts}
 use Rattle.fsl_flow.proofs.par.started_with.Given as goal
 

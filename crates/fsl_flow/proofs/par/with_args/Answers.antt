@@ -7,7 +7,7 @@ use Rattle.fsl_core.specs.logic.Assertions.{asrt_of}
 use Rattle.fsl_core.specs.logic.Locations.{setting_of}
 use Rattle.fsl_core.specs.logic.Calls.{call_of}
 use Rattle.fsl_flow.specs.Calls.{running_of}
-use Rattle.fsl_flow.proofs.Threading.{calls_first, calls_more}
+use Rattle.fsl_flow.proofs.ParLemmas.{calls_first, calls_more}
 use Rattle.fsl_flow.proofs.par.with_args.Goals as goal
 
 pub loop-call-init : goal.loop-call-init

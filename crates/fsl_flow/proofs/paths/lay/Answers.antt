@@ -1,4 +1,4 @@
-use Rattle.fsl_flow.proofs.Walking.{laid}
+use Rattle.fsl_flow.proofs.PathsLemmas.{laid}
 use Rattle.fsl_flow.proofs.paths.lay.Goals as goal
 
 pub loop-last-preserved : goal.loop-last-preserved

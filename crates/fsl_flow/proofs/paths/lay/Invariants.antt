@@ -1,5 +1,5 @@
 use Rattle.std.proofs.Common.{◌≡◌, ◌++◌, length, map}
-use Rattle.fsl_flow.specs.Places.{item_of, stack}
+use Rattle.fsl_flow.specs.Pending.{item_of, stack}
 use Rattle.fsl_flow.proofs.paths.lay.Given as goal
 
 abbrev pub decreases-loop-last : goal.decreases-loop-last

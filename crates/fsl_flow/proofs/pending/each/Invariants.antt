@@ -1,12 +1,13 @@
 use Rattle.std.proofs.Common.{◌≡◌, ◌++◌, map}
-use Rattle.fsl_asrt.specs.Branches.{branches}
+use Rattle.fsl_asrt.specs.Branch.{branches}
 use Rattle.fsl_flow.specs.Next.{goes_to}
-use Rattle.fsl_flow.specs.Places.{item_of, left_of}
+use Rattle.fsl_flow.specs.Continuation.{continuation_of}
+use Rattle.fsl_flow.specs.Pending.{item_of}
 use Rattle.fsl_flow.proofs.pending.each.Given as goal
 
 abbrev pub invariant-loop-branch : goal.invariant-loop-branch
 invariant-loop-branch l = record {
   can : (goal.iterator-loop-branch).can_next l.branch-iterator;
   finite : (goal.iterator-loop-branch).is_finite l.branch-iterator;
-  so_far : map item_of l.out ++ goes_to l.at (branches l.branch-iterator.rest.items) (left_of l.rest) ≡ goes_to l.at (branches l.fn.going) (left_of l.rest);
+  so_far : map item_of l.out ++ goes_to l.at (branches l.branch-iterator.rest.items) (continuation_of l.continuation) ≡ goes_to l.at (branches l.fn.going) (continuation_of l.continuation);
 }

@@ -1,7 +1,7 @@
 use Rattle.std.proofs.Common.{◌≡◌, ◌++◌, map}
-use Rattle.fsl_asrt.specs.Branches.{branches}
+use Rattle.fsl_asrt.specs.Branch.{branches}
 use Rattle.fsl_flow.specs.Next.{ends_at}
-use Rattle.fsl_flow.specs.Places.{item_of}
+use Rattle.fsl_flow.specs.Pending.{item_of}
 use Rattle.fsl_flow.proofs.pending.each_end.Given as goal
 
 abbrev pub invariant-loop-branch : goal.invariant-loop-branch

@@ -1,7 +1,7 @@
 use Rattle.std.proofs.Common.{◌≡◌, drop, map}
 use Rattle.std.specs.List.{list_any}
 use Rattle.fsl_core.specs.logic.Terms.{expr_of}
-use Rattle.fsl_asrt.proofs.Parts.{part_of}
+use Rattle.fsl_asrt.proofs.TermsLemmas.{part_of}
 use Rattle.fsl_flow.proofs.says.+expr_says.Given as goal
 
 abbrev pub decreases-expr_says : goal.decreases-expr_says

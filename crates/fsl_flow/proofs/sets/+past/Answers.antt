@@ -1,7 +1,7 @@
 use Rattle.std.proofs.Common.{◌≡◌, ◌∙◌, ap, sym}
 use Rattle.fsl_core.specs.logic.Slots.{past}
 use Rattle.fsl_flow.specs.Sets.{Slots, stmts_set}
-use Rattle.fsl_flow.proofs.Slots.{past_both, if_sets, past_on, past_end}
+use Rattle.fsl_flow.proofs.SetsLemmas.{past_both, if_sets, past_on, past_end}
 use Rattle.fsl_flow.proofs.sets.+past.Goals as goal
 
 pub past-returns-in-If : goal.past-returns-in-If

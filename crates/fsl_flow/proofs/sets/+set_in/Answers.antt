@@ -1,7 +1,7 @@
 use Rattle.std.proofs.Common.{rules, ◌≡◌, ◌==◌, false, sym}
 use Rattle.std.specs.List.{list_any}
 use Rattle.fsl_flow.specs.Sets.{act_sets}
-use Rattle.fsl_flow.proofs.Slots.{any_skips, any_found, any_end}
+use Rattle.fsl_flow.proofs.SetsLemmas.{any_skips, any_found, any_end}
 use Rattle.fsl_flow.proofs.sets.+set_in.Goals as goal
 
 pub set_among-returns-in-Some-clause-found : goal.set_among-returns-in-Some-clause-found

@@ -1,6 +1,6 @@
 use Rattle.std.proofs.Common.{◌≡◌, drop}
-use Rattle.fsl_chunk.specs.Sought.{sought, fits}
-use Rattle.fsl_chunk.proofs.Searching.{first_in}
+use Rattle.fsl_chunk.specs.Fits.{sought, fits}
+use Rattle.fsl_chunk.proofs.HeapSearch.{first_in}
 use Rattle.fsl_chunk.proofs.heap.Heap.find.Given as goal
 
 abbrev pub invariant-loop-number : goal.invariant-loop-number

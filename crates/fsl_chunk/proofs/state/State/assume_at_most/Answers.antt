@@ -4,7 +4,7 @@ use Rattle.std.proofs.lemmas.Int.{to_z-of_z}
 use Rattle.fsl_core.specs.logic.Deciding.{assume}
 use Rattle.fsl_lin.specs.Combination.{Combination}
 use Rattle.fsl_lin.specs.declared.fact.Fact.TheVariants.{Le}
-use Rattle.fsl_chunk.specs.Branches.{branches}
+use Rattle.fsl_chunk.specs.Went.{branches}
 use Rattle.fsl_chunk.proofs.state.State.assume_at_most.Goals as goal
 
 pub returns-in-Ok : goal.returns-in-Ok

@@ -5,7 +5,7 @@ use Rattle.fsl_core.specs.logic.Deciding.{assume}
 use Rattle.fsl_lin.specs.Facts.{absurd_facts}
 use Rattle.fsl_lin.specs.declared.fact.Fact.TheVariants.{Is}
 use Rattle.fsl_pure.specs.Known.{Marked}
-use Rattle.fsl_chunk.proofs.Assuming.{assumed, unfit}
+use Rattle.fsl_chunk.proofs.StateLemmas.{assumed, unfit}
 use Rattle.fsl_chunk.proofs.state.State.assume_eq.Goals as goal
 
 pub returns-in-Ok : goal.returns-in-Ok

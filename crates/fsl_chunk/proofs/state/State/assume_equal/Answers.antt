@@ -2,7 +2,7 @@ use Rattle.std.proofs.Common.{◌≡◌, IfOk, subst}
 use Rattle.fsl_core.specs.logic.Deciding.{assume}
 use Rattle.fsl_lin.specs.Combination.{Combination}
 use Rattle.fsl_lin.specs.declared.fact.Fact.TheVariants.{Is}
-use Rattle.fsl_chunk.specs.Branches.{branches}
+use Rattle.fsl_chunk.specs.Went.{branches}
 use Rattle.fsl_chunk.proofs.state.State.assume_equal.Goals as goal
 
 pub returns-in-Ok : goal.returns-in-Ok

@@ -1,7 +1,0 @@
-use Rattle.std.proofs.Common.{◌≡◌, drop}
-use Rattle.std.specs.List.{list_all}
-use Rattle.fsl_flow.specs.Built.{is_built_proc}
-use Rattle.fsl_flow.proofs.covered.are_built_procs.Given as goal
-
-abbrev pub invariant-loop-proc : goal.invariant-loop-proc
-invariant-loop-proc l = list_all is_built_proc (drop l.proc-index l.procs) ≡ list_all is_built_proc l.procs
