@@ -69,8 +69,8 @@ def files(name, folder=None, crate=None):
     roots = [TOP, TOP / "crates", TOP / "docs"] + ([folder] if folder else [])
     if crate:
         roots += [TOP / "crates" / crate / it for it in ("", "src", "specs")]
-    elif name.endswith("/"):
-        roots += list(TOP.glob("crates/*"))
+    elif "/" not in name.rstrip("/"):
+        roots += [*TOP.glob("crates/*"), *TOP.glob("crates/*/src"), *TOP.glob("crates/*/specs"), *TOP.glob("crates/*/proofs")]
     found = []
     for root in roots:
         if not name.startswith("/"):
