@@ -4,6 +4,7 @@ pub mod Happens
 pub mod Places
 pub mod Consistent
 pub mod Execution
+pub mod Ending
 pub mod Safe
 pub mod Positions
 pub mod Orders

@@ -6,9 +6,9 @@ use Rattle.fslpp.specs.declared.command.Command.TheVariants.{Check, Run}
 use Rattle.fslpp.specs.declared.refused.Unread.{Unread}
 use Rattle.fslpp.specs.Answers.{Reading, HasCause, IsProgramOf, IsChecked, judged, refused, IsRan, IsRunAnswer, runs, has_program, has_none, run_answer, verdict_answer, verdict_status, refusal}
 use Rattle.fsl_core.specs.logic.Verdicts.{verdict_of}
-use Rattle.fsl_machine.specs.declared.ends.End.{End}
+use Rattle.fsl_graph.specs.declared.ending.End.{End}
 use Rattle.fsl_graph.specs.declared.graph.Graph.{Graph}
-use Rattle.fsl_run.specs.Runs.{IsRunOf}
+use Rattle.fsl_run.specs.Running.{IsRunOf}
 
 pub judged_is : {E : Type 0} (r : Reading) (bytes : List ℕ) (p : Program) → IsProgramOf Check r bytes p
     → (result : Result Answer E) → IfOk result (λ a. a ≡ verdict_answer bytes p) → IfOk result (λ a. IsChecked r a)

@@ -14,7 +14,7 @@ use crate::texts::verdict_text;
 use fsl_base::{Gate, Shelf, Sink};
 use fsl_core::Verdict;
 use fsl_exec_text::write;
-use fsl_machine::End;
+use fsl_graph::End;
 use fsl_run::{Ran, RunWords, run};
 use fsl_sound::judge;
 use std::alloc::{AllocError, Global};
