@@ -1,5 +1,5 @@
 //! Which of the candidates of a read or a write is taken: a number below how many there are, by a
-//! chooser whose present state determines it.
+//! chooser whose present state determines it. `specs/Picks.antt` says for all choosers what they pick.
 #![tactic(auto)]
 
 mod choose;

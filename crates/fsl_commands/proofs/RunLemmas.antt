@@ -3,8 +3,8 @@ use Rattle.std.proofs.Common.{◌≡◌, ℕ, List, Some, Result, Ok, Err, IfOk}
 use Rattle.fsl_core.specs.Programs.{Program}
 use Rattle.fsl_core.specs.logic.Verdicts.{verdict_of}
 use Rattle.fsl_graph.specs.declared.graph.Graph.{Graph}
-use Rattle.fsl_machine.specs.declared.ends.End.{End}
-use Rattle.fsl_run.specs.Runs.{IsRunOf}
+use Rattle.fsl_graph.specs.declared.ending.End.{End}
+use Rattle.fsl_run.specs.Running.{IsRunOf}
 use Rattle.fsl_commands.specs.declared.answer.Answer.{Answer}
 use Rattle.fsl_commands.specs.declared.command.Command.TheVariants.{Run}
 use Rattle.fsl_commands.specs.declared.unread.Unread.{Unread}

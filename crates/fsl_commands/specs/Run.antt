@@ -4,9 +4,9 @@ use Rattle.fsl_core.specs.Programs.{Program}
 use Rattle.fsl_core.specs.logic.Verdicts.{verdict_of}
 use Rattle.fsl_exec_text.specs.Texts.{execution_text}
 use Rattle.fsl_graph.specs.declared.graph.Graph.{Graph}
-use Rattle.fsl_machine.specs.declared.ends.End.{End}
-use Rattle.fsl_machine.specs.declared.ends.End.TheVariants as ends
-use Rattle.fsl_run.specs.Runs.{IsRunOf}
+use Rattle.fsl_graph.specs.declared.ending.End.{End}
+use Rattle.fsl_graph.specs.declared.ending.End.TheVariants as ends
+use Rattle.fsl_run.specs.Running.{IsRunOf}
 use Rattle.fsl_commands.specs.declared.answer.Answer.{Answer}
 use Rattle.fsl_commands.specs.declared.command.Command.TheVariants.{Run}
 use Rattle.fsl_commands.specs.declared.unread.Unread.{Unread}

@@ -14,7 +14,7 @@ use crate::unread::refused;
 use fsl_base::{Gate, Shelf, Sink};
 use fsl_core::Verdict;
 use fsl_exec_text::write;
-use fsl_machine::End;
+use fsl_graph::End;
 use fsl_report::verdict_text;
 use fsl_run::{Ran, RunWords, run};
 use fsl_sound::judge;

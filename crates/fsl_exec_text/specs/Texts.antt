@@ -13,10 +13,10 @@ use Rattle.fsl_graph.specs.declared.event.Event.{Event}
 use Rattle.fsl_graph.specs.declared.graph.Graph.{Graph}
 use Rattle.fsl_graph.specs.declared.graph.Order.{Order}
 use Rattle.fsl_graph.specs.declared.graph.Thread.{Thread}
-use Rattle.fsl_machine.specs.declared.ends.End.{End}
-use Rattle.fsl_machine.specs.declared.ends.End.TheVariants as ends
-use Rattle.fsl_machine.specs.declared.ends.LimitKind.{LimitKind}
-use Rattle.fsl_machine.specs.declared.ends.LimitKind.TheVariants as limit
+use Rattle.fsl_graph.specs.declared.ending.End.{End}
+use Rattle.fsl_graph.specs.declared.ending.End.TheVariants as ends
+use Rattle.fsl_graph.specs.declared.ending.LimitKind.{LimitKind}
+use Rattle.fsl_graph.specs.declared.ending.LimitKind.TheVariants as limit
 
 -- ---- words
 

@@ -2,8 +2,7 @@
 use crate::write;
 use fsl_base::List;
 use fsl_core::{AllocKind, Ended, Label, Mode};
-use fsl_graph::{Event, Graph, Order, Thread};
-use fsl_machine::{End, LimitKind};
+use fsl_graph::{End, Event, Graph, LimitKind, Order, Thread};
 use std::alloc::{AllocError, Global};
 use std::test::Fail;
 

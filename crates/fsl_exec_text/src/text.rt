@@ -8,8 +8,7 @@ use crate::numbers::{push_integers, push_numbers};
 use crate::words::limit_word;
 use fsl_base::Text;
 use fsl_core::Label;
-use fsl_graph::{Event, Graph, Order, Thread};
-use fsl_machine::End;
+use fsl_graph::{End, Event, Graph, Order, Thread};
 use std::alloc::{AllocError, Global};
 
 /// The text of a graph with its end.

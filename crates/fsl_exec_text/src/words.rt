@@ -3,7 +3,7 @@ ghost use Rattle.std.specs.Prelude.{◌≡◌};
 ghost use Rattle.fsl_exec_text.specs.Texts.{mode_word, kind_word, limit_word};
 
 use fsl_core::{AllocKind, Mode};
-use fsl_machine::LimitKind;
+use fsl_graph::LimitKind;
 
 /// The word for the order of an access or fence.
 pub(crate) fn mode_word(mode: Mode) -> &'static str

@@ -5,6 +5,7 @@ pub mod Places
 pub mod Consistent
 pub mod Execution
 pub mod Keeping
+pub mod Ending
 pub mod Safe
 pub mod Threads
 pub mod Positions

@@ -3,9 +3,11 @@
 //! of a program, consistent, acyclic and safe.
 #![tactic(auto)]
 
+mod ending;
 mod event;
 mod graph;
 pub mod laws;
 
+pub use ending::{End, LimitKind};
 pub use event::Event;
 pub use graph::{Graph, Order, Thread};

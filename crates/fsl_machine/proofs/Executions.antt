@@ -14,7 +14,7 @@ use Rattle.fsl_graph.specs.Execution.{Runs, IsExecution, IsThread, events_of, St
 use Rattle.fsl_graph.specs.Lone.{is_plain}
 use Rattle.fsl_machine.specs.Serial.{IsSerial, IsPlaced}
 use Rattle.fsl_machine.specs.States.{lone_graph}
-use Rattle.fsl_machine.specs.Trace.{Trace}
+use Rattle.fsl_machine.specs.History.{Trace}
 
 named_main : (q : Proc) (qs : List Proc) → is_straight_proc q ≡ true → named_from 0 (q ∷ qs) ≡ Some 0
 named_main q qs h =

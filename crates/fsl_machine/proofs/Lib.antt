@@ -1,11 +1,10 @@
-pub mod Places
-pub mod Puts
+pub mod OrdersLemmas
 pub mod Snoc
 pub mod Serial
-pub mod Kept
-pub mod Moves
+pub mod HistoryLemmas
+pub mod TurnLemmas
 pub mod Runs
 pub mod Lone
 pub mod Executions
-pub mod Steps
+pub mod MachineLemmas
 pub mod Returned

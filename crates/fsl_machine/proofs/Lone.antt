@@ -17,8 +17,8 @@ use Rattle.fsl_graph.specs.Places.{Listed}
 use Rattle.fsl_machine.specs.Orders.{writes_of, AreAbove, Ascends}
 use Rattle.fsl_machine.specs.Serial.{Stores, IsLastOf, AreBegun, IsSerial}
 use Rattle.fsl_machine.specs.States.{with_trace}
-use Rattle.fsl_machine.specs.Trace.{Trace}
-use Rattle.fsl_machine.proofs.Places.{below_other}
+use Rattle.fsl_machine.specs.History.{Trace}
+use Rattle.fsl_machine.proofs.OrdersLemmas.{below_other}
 
 -- ---- stores are writes
 

@@ -17,9 +17,10 @@ use Rattle.fsl_graph.specs.declared.graph.Thread.{Thread}
 use Rattle.fsl_graph.specs.Events.{Is}
 use Rattle.fsl_graph.specs.Execution.{Runs, stands, silent, shows, Answers, AreStarted, IsStarted, reply_of, numbered_of, events_of, first_of}
 use Rattle.fsl_graph.specs.Lone.{is_plain}
-use Rattle.fsl_machine.specs.Labels.{label_by, is_plain_need}
+use Rattle.fsl_moves.specs.Label.{label_of}
+use Rattle.fsl_machine.specs.Turn.{is_plain_need}
 use Rattle.fsl_machine.specs.States.{grown, lone_graph}
-use Rattle.fsl_machine.specs.Trace.{Trace, answer_of, recorded, event_of, IsNext}
+use Rattle.fsl_machine.specs.History.{Trace, answer_of, recorded, event_of, IsNext}
 use Rattle.fsl_machine.proofs.Snoc.{get_more, get_last}
 
 -- ---- what a label shows
@@ -32,7 +33,7 @@ pub record IsShown (t : Trace) (n : Need) (x : Label) : Type 0 where
 shown_as : (t : Trace) (n : Need) (x y : Label) → Some y ≡ Some x → IsShown t n y → IsShown t n x
 shown_as t n x y e h = let same : y ≡ x = cc in subst (λ (z : Label). IsShown t n z) same h
 
-pub is_shown : (t : Trace) (n : Need) (x : Label) → is_plain_need n ≡ true → label_by n (answer_of t n) ≡ Some x → IsShown t n x
+pub is_shown : (t : Trace) (n : Need) (x : Label) → is_plain_need n ≡ true → label_of n (answer_of t n) ≡ Some x → IsShown t n x
 is_shown t need.Local x h e = cc
 is_shown t (need.Load mode.Na l) x h e = shown_as t _ x _ e (record { plain = refl; next = refl; reply = refl })
 is_shown t (need.Store mode.Na l v) x h e = shown_as t _ x _ e (record { plain = refl; next = tt; reply = refl })
@@ -42,7 +43,7 @@ is_shown t (need.End v) x h e = shown_as t _ x _ e (record { plain = refl; next 
 is_shown t _ x h e = cc
 
 -- a move without a label is local
-is_local : (t : Trace) (n : Need) → is_plain_need n ≡ true → label_by n (answer_of t n) ≡ None → (n ≡ need.Local) × (answer_of t n ≡ reply.Nothing)
+is_local : (t : Trace) (n : Need) → is_plain_need n ≡ true → label_of n (answer_of t n) ≡ None → (n ≡ need.Local) × (answer_of t n ≡ reply.Nothing)
 is_local t need.Local h e = (refl, refl)
 is_local t (need.Load mode.Na l) h e = cc
 is_local t (need.Store mode.Na l v) h e = cc
@@ -139,7 +140,7 @@ showing_of c l = record { config = c; label = l }
 -- the moves so far and one more, with the label that it shows
 pub one_move : (p : Program) (c d e : Config) (m : ℕ) (t : Trace) (n : Need) (label : Option Label)
     → Runs p (lone_graph m t) c m (events_of (lone_graph m t) 0) d → n ≡ need_of p d → is_plain_need n ≡ true
-    → label ≡ label_by n (answer_of t n) → (moved p d (answer_of t n)).label ≡ label → (moved p d (answer_of t n)).config ≡ e
+    → label ≡ label_of n (answer_of t n) → (moved p d (answer_of t n)).label ≡ label → (moved p d (answer_of t n)).config ≡ e
     → Runs p (lone_graph (m + 1) (grown label t)) c (m + 1) (events_of (lone_graph (m + 1) (grown label t)) 0) e
 one_move p c d e m t n None runs need_is plain label_is made config_is =
     let local = is_local t n plain (sym label_is) in

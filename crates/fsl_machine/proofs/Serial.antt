@@ -11,9 +11,9 @@ use Rattle.fsl_graph.specs.declared.graph.Order.{Order}
 use Rattle.fsl_graph.specs.Events.{read_by}
 use Rattle.fsl_graph.specs.Lone.{is_plain}
 use Rattle.fsl_machine.specs.Orders.{writes_of, last_of, last_write, put, Ascends}
-use Rattle.fsl_machine.specs.Trace.{Trace, value_by, value_from, value_at, source_of, event_of, recorded, IsNext}
+use Rattle.fsl_machine.specs.History.{Trace, value_by, value_from, value_at, source_of, event_of, recorded, IsNext}
 use Rattle.fsl_machine.specs.Serial.{Stores, IsLastOf, IsSerial}
-use Rattle.fsl_machine.proofs.Puts.{writes_put, writes_put_other, begun_put, ascends_put}
+use Rattle.fsl_machine.proofs.OrdersLemmas.{writes_put, writes_put_other, begun_put, ascends_put}
 use Rattle.fsl_machine.proofs.Snoc.{get_more, get_last, get_cases, get_within, get_before, get_there}
 
 -- ---- stores with one more event

@@ -1,8 +1,7 @@
 pub mod Orders
-pub mod Trace
+pub mod History
 pub mod Serial
 pub mod States
-pub mod Ends
 pub mod Steps
-pub mod Labels
-pub mod Machines
+pub mod Turn
+pub mod Machine

@@ -1,6 +1,5 @@
 -- Modification orders with ascending locations: the writes of a location, and one more write.
-use Rattle.std.specs.Prelude.{ℕ, zero, suc, ◌-◌, Bool, true, false, slice_get, List, [], ◌∷◌, ◌++◌, length, Option, Some, None, ℤ, int_lt, if◌then◌else◌}
-use Rattle.std.specs.Prelude.{◌<ℤ◌}
+use Rattle.std.specs.Prelude.{ℕ, zero, suc, ◌-◌, Bool, true, false, slice_get, List, [], ◌∷◌, ◌++◌, length, Option, Some, None, ℤ, int_lt, if◌then◌else◌, ◌<ℤ◌}
 use Rattle.std.specs.Ordering.{int_eq}
 use Rattle.fsl_graph.specs.declared.graph.Order.{Order}
 
@@ -17,9 +16,9 @@ abbrev pub last_write : List Order → ℤ → Option ℕ
 last_write mo l = last_of (writes_of mo l)
 
 -- how many locations at the head are below l
-abbrev pub place_of : ℤ → List Order → ℕ
-place_of l [] = zero
-place_of l (o ∷ os) = if int_lt o.loc l then suc (place_of l os) else zero
+abbrev pub index_of : ℤ → List Order → ℕ
+index_of l [] = zero
+index_of l (o ∷ os) = if int_lt o.loc l then suc (index_of l os) else zero
 
 -- an order that is there is that of l
 abbrev pub is_at : ℤ → Option Order → Bool

@@ -8,7 +8,7 @@ use Rattle.fsl_graph.specs.declared.graph.Order.{Order}
 use Rattle.fsl_graph.specs.Events.{read_by}
 use Rattle.fsl_graph.specs.Lone.{is_plain}
 use Rattle.fsl_machine.specs.Orders.{writes_of, Ascends}
-use Rattle.fsl_machine.specs.Trace.{allocations, messages}
+use Rattle.fsl_graph.specs.Ending.{allocations, messages}
 
 -- event e stores v at l
 pub record Stores (es : List Event) (e : ℕ) (l v : ℤ) : Type 0 where

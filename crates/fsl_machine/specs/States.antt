@@ -6,7 +6,7 @@ use Rattle.fsl_core.specs.Programs.{Program}
 use Rattle.fsl_core.specs.Moves.{Config, Moved, need_of, moved, start_of}
 use Rattle.fsl_graph.specs.declared.graph.Graph.{Graph}
 use Rattle.fsl_graph.specs.declared.graph.Thread.{Thread}
-use Rattle.fsl_machine.specs.Trace.{Trace, answer_of, recorded}
+use Rattle.fsl_machine.specs.History.{Trace, answer_of, recorded}
 
 -- the program, the bound on moves, how the thread stands, and the graph so far
 pub record State : Type 0 where
@@ -14,11 +14,6 @@ pub record State : Type 0 where
   pub bound : ℕ
   pub config : Config
   pub graph : Graph
-
--- how many moves threads have made
-abbrev pub moves_of : List Thread → ℕ
-moves_of [] = 0
-moves_of (t ∷ ts) = t.moves + moves_of ts
 
 -- the first thread has made one more move
 abbrev pub one_more : List Thread → List Thread

@@ -1,15 +1,15 @@
 -- What a step of the machine does, and when it refuses.
 use Rattle.std.specs.Prelude.{◌≡◌, ◌==◌, Bool, true, false, Option, Some, None}
 use Rattle.fsl_core.specs.declared.need.Need.{Need}
-use Rattle.fsl_core.specs.declared.need.Need.TheVariants as need
 use Rattle.fsl_core.specs.Moves.{Config, running, joining, returned, halted, failed}
-use Rattle.fsl_machine.specs.declared.ends.LimitKind.{LimitKind}
-use Rattle.fsl_machine.specs.declared.ends.Readiness.{Readiness}
-use Rattle.fsl_machine.specs.declared.ends.Readiness.TheVariants as readiness
-use Rattle.fsl_machine.specs.declared.ends.Stepped.{Stepped}
-use Rattle.fsl_machine.specs.declared.ends.Stepped.TheVariants as stepped
-use Rattle.fsl_machine.specs.Ends.{limit_of}
-use Rattle.fsl_machine.specs.States.{State, moves_of, need_in, next_state}
+use Rattle.fsl_graph.specs.declared.ending.LimitKind.{LimitKind}
+use Rattle.fsl_machine.specs.declared.steps.Readiness.{Readiness}
+use Rattle.fsl_machine.specs.declared.steps.Readiness.TheVariants as readiness
+use Rattle.fsl_machine.specs.declared.steps.Stepped.{Stepped}
+use Rattle.fsl_machine.specs.declared.steps.Stepped.TheVariants as stepped
+use Rattle.fsl_graph.specs.Ending.{limit_of, moves_of}
+use Rattle.fsl_moves.specs.Moves.{is_access}
+use Rattle.fsl_machine.specs.States.{State, need_in, next_state}
 
 -- how the only thread stands: it waits for nobody but threads that it would have started
 abbrev pub readiness_of : Config → Readiness
@@ -48,14 +48,7 @@ abbrev pub IfLimit : Stepped → (LimitKind → Type 0) → Type 0
 IfLimit (stepped.Limit kind) P = P kind
 IfLimit _ P = Unit {0}
 
--- a read or a write, whose candidate is chosen; there is one
-abbrev pub is_access : Need → Bool
-is_access (need.Load m l) = true
-is_access (need.Store m l v) = true
-is_access (need.Rmw m fail l op) = true
-is_access _ = false
-
--- a step that moves asks for a choice where it is an access
+-- a step that moves asks for a choice where it is a read or a write, whose candidate is chosen; there is one
 abbrev pub asks : Stepped → Need → Bool
 asks stepped.Moved n = is_access n
 asks _ n = false

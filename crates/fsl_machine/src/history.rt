@@ -4,7 +4,8 @@ ghost use Rattle.fsl_graph.specs.Lone.{is_plain, IsLone};
 ghost use Rattle.fsl_machine.specs.Serial.{IsSerial, IsPlaced};
 ghost use Rattle.fsl_machine.specs.States.{with_trace};
 ghost use Rattle.fsl_machine.specs.Orders.{Ascends};
-ghost use Rattle.fsl_machine.specs.Trace.{allocations, messages, is_alloc, is_write, value_by, value_at, answer_of, source_in, ordered, recorded, IsNext};
+ghost use Rattle.fsl_machine.specs.History.{value_by, value_at, answer_of, source_in, ordered, recorded, IsNext};
+ghost use Rattle.fsl_graph.specs.Ending.{allocations, messages, is_alloc, is_write};
 
 use crate::orders::{last_write, put};
 use fsl_base::List;
@@ -26,7 +27,7 @@ pub(crate) struct History {
 
 impl Model for History {
     ghost use Rattle.fsl_machine.specs.Orders.{Ascends};
-    ghost use Rattle.fsl_machine.specs.Trace.{Trace};
+    ghost use Rattle.fsl_machine.specs.History.{Trace};
     ghost use Rattle.fsl_machine.specs.Serial.{IsKept};
 
     ghost Value = { Trace };

@@ -2,23 +2,23 @@
 ghost use Rattle.std.specs.Prelude.{◌≡◌, ◌<◌, ◌≤◌, length, IfOk, IfSome, IfNone, IsTrue, if◌then◌else◌};
 ghost use Rattle.fsl_core.specs.Straight.{is_straight};
 ghost use Rattle.fsl_core.specs.Programs.{Program};
-ghost use Rattle.fsl_moves.specs.Configs.{config_of};
+ghost use Rattle.fsl_moves.specs.Config.{config_of};
 ghost use Rattle.fsl_graph.specs.Consistent.{IsConsistent};
 ghost use Rattle.fsl_graph.specs.Execution.{IsExecution};
 ghost use Rattle.fsl_graph.specs.Sequenced.{IsAcyclic};
-ghost use Rattle.fsl_machine.specs.Ends.{IsEnd, MayGoOn};
+ghost use Rattle.fsl_graph.specs.Ending.{IsEnd, MayGoOn};
 ghost use Rattle.fsl_machine.specs.States.{first_state, need_in};
 ghost use Rattle.fsl_machine.specs.Steps.{readiness_of, Steps, IfLimit, asks};
 
-use crate::ends::{End, Readiness, Stepped};
 use crate::history::History;
-use crate::turn::{ask, asked, go_on, limit, remember, shown};
+use crate::steps::{Readiness, Stepped};
+use crate::turn::{ask, asked, go_on, limit, remember};
 use fsl_base::List;
 use fsl_choose::Choose;
 use fsl_core::{Program, Standing};
 use fsl_graph::laws::one_thread;
-use fsl_graph::{Graph, Thread};
-use fsl_moves::{Config, standing, start};
+use fsl_graph::{End, Graph, Thread};
+use fsl_moves::{Config, label_of, standing, start};
 use std::alloc::{AllocError, Global};
 use std::marker::Model;
 
@@ -37,8 +37,8 @@ impl Model for Machine {
     ghost use Rattle.std.specs.Coded.{codes};
     ghost use Rattle.fsl_core.specs.contracts.act.Stmt as stmt;
     ghost use Rattle.fsl_core.specs.contracts.assertion.Asrt as asrt;
-    ghost use Rattle.fsl_moves.specs.Configs.{config_of};
-    ghost use Rattle.fsl_machine.specs.Machines.{IsRun};
+    ghost use Rattle.fsl_moves.specs.Config.{config_of};
+    ghost use Rattle.fsl_machine.specs.Machine.{IsRun};
     ghost use Rattle.fsl_machine.specs.States.{State, lone_graph};
 
     ghost Value = { State };
@@ -120,7 +120,7 @@ impl Machine {
             return Stepped::Limit { kind };
         }
         let reply = self.history.answer(&need);
-        let Ok(()) = remember(&mut self.history, shown(&need, &reply)) else {
+        let Ok(()) = remember(&mut self.history, label_of(&need, &reply)) else {
             return Stepped::NoMemory;
         };
         ask(choose, &need);

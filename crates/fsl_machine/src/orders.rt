@@ -1,21 +1,21 @@
 //! The modification orders of the locations so far, by ascending locations.
 ghost use Rattle.std.specs.Prelude.{◌≡◌, ◌≤◌, length, slice_get, OnOk, OnErr};
-ghost use Rattle.fsl_machine.specs.Orders.{Ascends, place_of, is_at, last_of, last_write, put};
+ghost use Rattle.fsl_machine.specs.Orders.{Ascends, index_of, is_at, last_of, last_write, put};
 
 use fsl_base::List;
 use fsl_graph::Order;
 use std::alloc::{AllocError, Global};
 
-/// How many locations are below one.
-fn place(orders: &[Order], loc: &i64) -> usize
+/// The index of a location's order, or the index that it would have.
+fn index(orders: &[Order], loc: &i64) -> usize
     requires { Ascends orders.now }
-    ensures place { result ≡ place_of loc.now orders.now }
+    ensures index { result ≡ index_of loc.now orders.now }
     ensures within { result ≤ length orders.now }
 {
     orders.partition_point(|order| order.loc < *loc)
 }
 
-/// Whether the order at a place is that of a location.
+/// Whether the order at an index is that of a location.
 fn is_at(orders: &[Order], at: usize, loc: &i64) -> bool
     ensures { result ≡ is_at loc.now (slice_get orders.now at) }
 {
@@ -37,7 +37,7 @@ pub(crate) fn last_write(orders: &[Order], loc: &i64) -> Option<u32>
     requires { Ascends orders.now }
     ensures { result ≡ last_write orders.now loc.now }
 {
-    let at = place(orders, loc);
+    let at = index(orders, loc);
     if is_at(orders, at, loc) {
         last_of(orders[at].writes.as_slice())
     } else {
@@ -56,7 +56,7 @@ pub(crate) fn put(
     ensures put { OnOk result (orders.new.items ≡ put loc.now write orders.old.items) }
     ensures kept { OnErr result (orders.new.items ≡ orders.old.items) }
 {
-    let at = place(orders.as_slice(), loc);
+    let at = index(orders.as_slice(), loc);
     if is_at(orders.as_slice(), at, loc) {
         return orders[at].writes.push(write);
     }

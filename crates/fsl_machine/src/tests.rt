@@ -1,8 +1,9 @@
 //! Tests of what no clause says: that moves are made where there is memory.
-use crate::{End, Machine, Readiness, Stepped};
+use crate::{Machine, Readiness, Stepped};
 use fsl_base::{List, Span, Text};
 use fsl_choose::Newest;
 use fsl_core::{Act, Asrt, Expr, Label, Mode, Proc, Program, Stmt, is_straight};
+use fsl_graph::{End, Graph};
 use std::alloc::{AllocError, Global};
 
 // The program with this body of `main`, and two variables.
@@ -84,7 +85,7 @@ fn stops_at_the_bound(rt: HostRuntime) -> Result<(), AllocError> {
 }
 
 // The graph after so many moves of a cell that is given 7 and loaded.
-fn graph_after(alloc: Global, moves: u32) -> Result<Option<fsl_graph::Graph>, AllocError> {
+fn graph_after(alloc: Global, moves: u32) -> Result<Option<Graph>, AllocError> {
     let mode = Mode::Na;
     let acts = vec![in alloc;
         Act::AllocNa { slot: 0 },

@@ -2,19 +2,16 @@
 ghost use Rattle.std.specs.Prelude.{◌≡◌, ℕ, ◌+◌, ◌<◌, ◌^◌, length, IfSome, OnOk, OnErr, true, false, if◌then◌else◌};
 ghost use Rattle.fsl_core.specs.Moves.{need_of, moved};
 ghost use Rattle.fsl_graph.specs.Lone.{is_plain};
-ghost use Rattle.fsl_moves.specs.Configs.{config_of, Fits};
-ghost use Rattle.fsl_moves.specs.Memory.{is_list, grows};
-ghost use Rattle.fsl_moves.specs.Numbers.{HasNumbers};
-ghost use Rattle.fsl_machine.specs.Ends.{limit_of};
-ghost use Rattle.fsl_machine.specs.Labels.{label_by};
+ghost use Rattle.fsl_moves.specs.Config.{config_of, Fits};
+ghost use Rattle.fsl_moves.specs.Moves.{is_list, is_access, grows, HasNumbers};
+ghost use Rattle.fsl_graph.specs.Ending.{limit_of};
 ghost use Rattle.fsl_machine.specs.States.{grown, lone_graph};
-ghost use Rattle.fsl_machine.specs.Steps.{is_access};
-ghost use Rattle.fsl_machine.specs.Trace.{IsNext};
+ghost use Rattle.fsl_machine.specs.History.{IsNext};
 
-use crate::ends::LimitKind;
 use crate::history::History;
 use fsl_choose::Choose;
 use fsl_core::{Label, Need, Program, Reply};
+use fsl_graph::LimitKind;
 use fsl_moves::{Config, advance, next};
 use std::alloc::{AllocError, Global};
 
@@ -49,31 +46,6 @@ pub(crate) fn limit(need: &Need, history: &History) -> Option<LimitKind>
             Some(LimitKind::Messages)
         }
         Need::Fork { calls } if calls.len() >= MAX_THREADS => Some(LimitKind::Threads),
-        _ => None,
-    }
-}
-
-/// The label that a move of a straight program shows.
-pub(crate) fn shown(need: &Need, reply: &Reply) -> Option<Label>
-    ensures { result ≡ label_by need.now reply.now }
-{
-    match (need, reply) {
-        (Need::Load { mode, loc }, Reply::Read { value }) => Some(Label::Load {
-            mode: *mode,
-            loc: *loc,
-            value: *value,
-        }),
-        (Need::Store { mode, loc, value }, _) => Some(Label::Store {
-            mode: *mode,
-            loc: *loc,
-            value: *value,
-        }),
-        (Need::Alloc { kind }, Reply::Place { loc }) => Some(Label::Alloc {
-            kind: *kind,
-            loc: *loc,
-        }),
-        (Need::Print { value }, _) => Some(Label::Print { value: *value }),
-        (Need::End { value }, _) => Some(Label::End { value: *value }),
         _ => None,
     }
 }

@@ -4,10 +4,10 @@ use Rattle.std.specs.Prelude.{ℕ, ℤ, ◌≡◌, ◌+◌, ◌-◌, ◌/◌, �
 use Rattle.std.specs.List.{All, list_any}
 use Rattle.std.specs.Option.{option_map}
 use Rattle.std.specs.declared.option.Option.TheVariants.{Some, None}
-use Rattle.fsl_mem.specs.declared.slot.Gap.{Gap}
-use Rattle.fsl_mem.specs.declared.slot.Slot.{Slot}
-use Rattle.fsl_mem.specs.declared.slot.Source.{Source}
-use Rattle.fsl_mem.specs.declared.slot.Source.TheVariants as source
+use Rattle.fsl_mem.specs.declared.slots.Gap.{Gap}
+use Rattle.fsl_mem.specs.declared.slots.Slot.{Slot}
+use Rattle.fsl_mem.specs.declared.slots.Source.{Source}
+use Rattle.fsl_mem.specs.declared.slots.Source.TheVariants as source
 use Rattle.fsl_mem.specs.declared.message.Message.{Message}
 use Rattle.fsl_mem.specs.Slots.{message}
 

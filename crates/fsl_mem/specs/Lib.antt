@@ -1,5 +1,5 @@
 pub mod Slots
 pub mod Candidates
-pub mod Filed
+pub mod Order
 pub mod Orders
-pub mod Stored
+pub mod Memory

@@ -4,9 +4,9 @@ use Rattle.std.specs.Ordering.{int_cmp}
 use Rattle.std.specs.BTreeMap.{BTreeMap}
 use Rattle.std.specs.BTreeMap as tree
 use Rattle.std.specs.declared.option.Option.TheVariants.{Some, None}
-use Rattle.fsl_mem.specs.declared.slot.Slot.{Slot}
+use Rattle.fsl_mem.specs.declared.slots.Slot.{Slot}
 use Rattle.fsl_mem.specs.declared.message.Message.{Message}
-use Rattle.fsl_mem.specs.Filed.{Filed}
+use Rattle.fsl_mem.specs.Order.{Filed}
 use Rattle.fsl_mem.specs.Slots.{slots}
 
 abbrev pub slots_in : Option Filed → List Slot

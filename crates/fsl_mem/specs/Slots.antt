@@ -2,7 +2,7 @@
 use Rattle.std.specs.Prelude.{ℕ, ℤ, ◌==◌, nat_lt, List, [], ◌∷◌, length, Option, if◌then◌else◌}
 use Rattle.std.specs.Ordering.{int_eq}
 use Rattle.std.specs.declared.option.Option.TheVariants.{Some, None}
-use Rattle.fsl_mem.specs.declared.slot.Slot.{Slot}
+use Rattle.fsl_mem.specs.declared.slots.Slot.{Slot}
 use Rattle.fsl_mem.specs.declared.message.Message.{Message}
 
 -- the message of a number: they are numbered from 0, in the order in which they were put

@@ -3,7 +3,7 @@ ghost use Rattle.std.specs.Prelude.{◌≡◌, ◌≤◌, ◌^◌, ◌↔◌, If
 ghost use Rattle.std.specs.List.{list_any};
 ghost use Rattle.fsl_mem.specs.Candidates.{nothing, readable, places, gap_to, room_after, overlaps, is_taken, IsBounded};
 
-use crate::slot::{Gap, Slot, Source};
+use crate::slots::{Gap, Slot, Source};
 use fsl_base::List;
 use std::alloc::{AllocError, Global};
 

@@ -7,11 +7,11 @@ mod memory;
 mod message;
 mod order;
 mod orders;
-mod slot;
+mod slots;
 
 pub use memory::Memory;
 pub use message::{Message, PutAt};
-pub use slot::{Gap, Slot, Source};
+pub use slots::{Gap, Slot, Source};
 
 #[cfg(test)]
 mod tests;

@@ -1,13 +1,13 @@
 //! The memory: all messages, and for each location their order.
 ghost use Rattle.std.specs.Prelude.{◌≡◌, [], ◌∷◌, ◌++◌, ◌<◌, ◌^◌, length, slice_get, vec_capacity, IfOk, OnOk, OnErr, IsOk, IsTrue, ◌↔◌, if◌then◌else◌};
 ghost use Rattle.std.specs.Option.{option_map};
-ghost use Rattle.fsl_view.specs.Kept.{seen};
+ghost use Rattle.fsl_view.specs.View.{seen};
 ghost use Rattle.fsl_mem.specs.Slots.{message, slots};
 ghost use Rattle.fsl_mem.specs.Candidates.{readable, places, room_after, is_taken, end_of, IsBounded, IsSourceAt};
 
 use crate::message::{Message, PutAt};
 use crate::order::Order;
-use crate::slot::{Gap, Slot, Source};
+use crate::slots::{Gap, Slot, Source};
 use crate::{candidates, orders};
 use fsl_base::List;
 use fsl_view::View;
@@ -26,7 +26,7 @@ pub struct Memory {
 
 impl Model for Memory {
     ghost use Rattle.std.specs.Prelude.{reverse, vec_capacity};
-    ghost use Rattle.fsl_mem.specs.Stored.{Stored, IsKept};
+    ghost use Rattle.fsl_mem.specs.Memory.{Stored, IsKept};
 
     ghost Value = { Stored };
 

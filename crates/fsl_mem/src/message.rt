@@ -1,16 +1,21 @@
 //! Messages.
 
-use crate::slot::Gap;
+use crate::slots::Gap;
 use fsl_view::View;
 
 /// What a write leaves: its location, interval and value, the number of its event, and the view that
 /// readers may take over.
 #[derive(Drop)]
 pub struct Message {
+    /// The location that was written.
     pub loc: i64,
+    /// Its interval among the messages of the location.
     pub gap: Gap,
+    /// What was written.
     pub value: i64,
+    /// The event that wrote it, by its number.
     pub event: u32,
+    /// What a reader that acquires may take over.
     pub view: View,
 }
 

@@ -2,7 +2,7 @@
 ghost use Rattle.std.specs.Prelude.{◌≡◌, [], ◌≤◌, ◌<◌, length, insert, OnOk, vec_capacity};
 ghost use Rattle.fsl_mem.specs.Slots.{insert_slot};
 
-use crate::slot::Slot;
+use crate::slots::Slot;
 use std::alloc::{AllocError, Global};
 use std::marker::Model;
 
@@ -14,7 +14,7 @@ pub(crate) struct Order {
 
 impl Model for Order {
     ghost use Rattle.std.specs.Prelude.{vec_capacity};
-    ghost use Rattle.fsl_mem.specs.Filed.{Filed};
+    ghost use Rattle.fsl_mem.specs.Order.{Filed};
 
     ghost Value = { Filed };
 
@@ -58,17 +58,17 @@ fn insert(slots: &mut Vec<Slot>, slot: Slot)
     requires { length slots.old.items < vec_capacity slots.old }
     ensures { slots.new.items ≡ insert_slot slot slots.old.items }
 {
-    let index = place(slots.as_slice(), &slot);
-    match slots.insert(index, slot) {
+    let at = index(slots.as_slice(), &slot);
+    match slots.insert(at, slot) {
         Ok(()) => (),
         Err(_) => unreachable!(),
     }
 }
 
-/// Before the first slot that ends later.
-fn place(slots: &[Slot], slot: &Slot) -> usize
+/// The index of the first slot that ends later, behind the last where none does.
+fn index(slots: &[Slot], slot: &Slot) -> usize
     ensures within { result ≤ length slots.now }
-    ensures place { insert slots.now result slot.now ≡ insert_slot slot.now slots.now }
+    ensures inserts { insert slots.now result slot.now ≡ insert_slot slot.now slots.now }
 {
     let mut index = 0;
     for other in slots {

@@ -5,7 +5,7 @@ ghost use Rattle.fsl_mem.specs.Slots.{insert_slot};
 ghost use Rattle.fsl_mem.specs.Orders.{slots_at, HasRoomAt};
 
 use crate::order::Order;
-use crate::slot::Slot;
+use crate::slots::Slot;
 use std::alloc::{AllocError, Global};
 use std::collections::BTreeMap;
 

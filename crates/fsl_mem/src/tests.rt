@@ -188,3 +188,74 @@ fn a_gap_halves_forty_times(rt: HostRuntime) -> Result<(), Fail> {
     );
     Ok(())
 }
+
+const DATA: i64 = 1;
+const FLAG: i64 = 2;
+
+/// A thread writes at the last place of a location. A message that releases has what the thread has seen then.
+fn write(
+    rt: &impl Abort,
+    memory: &mut Memory,
+    alloc: Global,
+    thread: &mut View,
+    loc: i64,
+    releases: bool,
+) -> Result<(), AllocError> {
+    assert!(rt; memory.is_bounded(loc) && memory.len() < 1000);
+    let places = memory.places(alloc, loc, thread)?;
+    let Some(gap) = places.as_slice().last() else {
+        return Err(AllocError);
+    };
+    thread.raise(loc, gap.to)?;
+    let message = if releases {
+        thread.copy(alloc)?
+    } else {
+        View::new(alloc)
+    };
+    let put = memory.put(loc, *gap, 7, 0, message)?;
+    assert!(rt; put != PutAt::Taken);
+    Ok(())
+}
+
+/// A thread reads the last source of a location. A read that acquires has what the message has.
+fn read(
+    rt: &impl Abort,
+    memory: &Memory,
+    alloc: Global,
+    thread: &mut View,
+    loc: i64,
+    acquires: bool,
+) -> Result<(), AllocError> {
+    let sources = memory.readable(alloc, loc, thread)?;
+    let Some(Source::Message { number }) = sources.as_slice().last() else {
+        return Err(AllocError);
+    };
+    assert!(rt; (*number as usize) < memory.len());
+    thread.raise(loc, memory.gap(*number).to)?;
+    if acquires {
+        thread.join(memory.view_of(*number))?;
+    }
+    Ok(())
+}
+
+// One thread writes the data and then the flag; another reads the flag, and may then read the data or nothing.
+#[test]
+fn a_flag_passes_what_was_written_before_it(rt: HostRuntime) -> Result<(), Fail> {
+    let alloc = rt.alloc();
+    for (releases, acquires, sources) in [
+        (true, true, 1),
+        (true, false, 2),
+        (false, true, 2),
+        (false, false, 2),
+    ] {
+        let mut memory = Memory::new(alloc);
+        let mut writer = View::new(alloc);
+        write(&rt, &mut memory, alloc, &mut writer, DATA, false)?;
+        write(&rt, &mut memory, alloc, &mut writer, FLAG, releases)?;
+        let mut reader = View::new(alloc);
+        read(&rt, &memory, alloc, &mut reader, FLAG, acquires)?;
+        let data = memory.readable(alloc, DATA, &reader)?;
+        assert_eq!(rt; data.len(), sources);
+    }
+    Ok(())
+}

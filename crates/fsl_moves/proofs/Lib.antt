@@ -1,5 +1,5 @@
-pub mod Asked
-pub mod Carried
-pub mod Forks
-pub mod Frames
-pub mod Paths
+pub mod ListsLemmas
+pub mod MovesLemmas
+pub mod ActsLemmas
+pub mod TurnLemmas
+pub mod ReachLemmas

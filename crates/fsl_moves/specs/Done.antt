@@ -13,8 +13,8 @@ use Rattle.fsl_moves.specs.declared.config.Arm.TheVariants as arm
 use Rattle.fsl_moves.specs.declared.done.Done.{Done}
 use Rattle.fsl_moves.specs.declared.done.Done.TheVariants as done
 use Rattle.fsl_moves.specs.declared.done.Turn.TheVariants as turn
-use Rattle.fsl_moves.specs.Configs.{block_of, frame_of}
-use Rattle.fsl_moves.specs.Memory.{is_list}
+use Rattle.fsl_moves.specs.Config.{block_of, frame_of}
+use Rattle.fsl_moves.specs.Moves.{is_list}
 
 -- a procedure with these statements left
 abbrev pub frame_with : List Stmt → Values → Option ℕ → Frame

@@ -1,6 +1,6 @@
-pub mod Configs
+pub mod Config
 pub mod Done
-pub mod Memory
-pub mod Numbers
-pub mod Places
-pub mod Turns
+pub mod Label
+pub mod Moves
+pub mod Reach
+pub mod Turn

@@ -4,14 +4,15 @@ ghost use Rattle.fsl_core.specs.declared.act.Act.TheOpen.{Act-F};
 ghost use Rattle.fsl_core.specs.declared.act.Step.{Step};
 ghost use Rattle.fsl_core.specs.declared.assertion.Inst.{Inst};
 ghost use Rattle.fsl_core.specs.Programs.{Program};
-ghost use Rattle.fsl_core.specs.Moves.{Config, kind_at, exchanged, showing};
-ghost use Rattle.fsl_core.specs.Values.{in_range};
+ghost use Rattle.fsl_core.specs.Moves.{kind_at};
 ghost use Rattle.fsl_moves.specs.Done.{Ends};
+ghost use Rattle.fsl_moves.specs.Label.{label_of};
 
 use crate::done::{Done, Turn};
+use crate::label::{label_of, update_of};
 use crate::needs::reading_mode;
 use fsl_base::List;
-use fsl_core::{AllocKind, Expr, Label, Mode, Reply, eval};
+use fsl_core::{AllocKind, Expr, Mode, Need, Reply, RmwOp, eval};
 
 /// Sets a variable, where there is one of this slot.
 pub fn set(env: &mut List<i64>, slot: u32, value: i64)
@@ -22,11 +23,12 @@ pub fn set(env: &mut List<i64>, slot: u32, value: i64)
     }
 }
 
-/// The end of a move with this label.
-pub fn shown(label: Label) -> Turn
-    ensures { result ≡ Turn.Goes (Some label) }
+/// The end of a move with the label of what it asks and is answered.
+pub fn shown(need: &Need, reply: &Reply) -> Turn
+    ensures { result ≡ Turn.Goes (label_of need.now reply.now) }
 {
-    Turn::Goes { label: Some(label) }
+    let label = label_of(need, reply);
+    Turn::Goes { label }
 }
 
 pub fn allocated(env: &mut List<i64>, slot: u32, kind: AllocKind, reply: &Reply) -> Turn
@@ -35,19 +37,18 @@ pub fn allocated(env: &mut List<i64>, slot: u32, kind: AllocKind, reply: &Reply)
 {
     match reply {
         Reply::Place { loc } => {
-            let loc = *loc;
-            set(env, slot, loc);
-            shown(Label::Alloc { kind, loc })
+            set(env, slot, *loc);
+            shown(&Need::Alloc { kind }, reply)
         }
         _ => Turn::Fails,
     }
 }
 
-pub fn freed(at: &Expr, env: &List<i64>) -> Turn
-    ensures { (p : Program) (reply : Reply) → Ends p (Act-F.Free at.now) env.now reply env.now (Done.Turns result) }
+pub fn freed(at: &Expr, env: &List<i64>, reply: &Reply) -> Turn
+    ensures { (p : Program) → Ends p (Act-F.Free at.now) env.now reply.now env.now (Done.Turns result) }
 {
     match eval(at, env) {
-        Some(loc) => shown(Label::Free { loc }),
+        Some(loc) => shown(&Need::Free { loc }, reply),
         None => Turn::Halts { label: None },
     }
 }
@@ -58,41 +59,19 @@ pub fn loaded(env: &mut List<i64>, slot: u32, mode: Mode, at: &Expr, reply: &Rep
     match (eval(at, env), reply) {
         (None, _) => Turn::Halts { label: None },
         (Some(loc), Reply::Read { value }) => {
-            let value = *value;
-            set(env, slot, value);
-            shown(Label::Load { mode, loc, value })
+            set(env, slot, *value);
+            shown(&Need::Load { mode, loc }, reply)
         }
         _ => Turn::Fails,
     }
 }
 
-pub fn stored(mode: Mode, at: &Expr, e: &Expr, env: &List<i64>) -> Turn
-    ensures { (p : Program) (reply : Reply) → Ends p (Act-F.Store mode at.now e.now) env.now reply env.now (Done.Turns result) }
+pub fn stored(mode: Mode, at: &Expr, e: &Expr, env: &List<i64>, reply: &Reply) -> Turn
+    ensures { (p : Program) → Ends p (Act-F.Store mode at.now e.now) env.now reply.now env.now (Done.Turns result) }
 {
     match (eval(at, env), eval(e, env)) {
-        (Some(loc), Some(value)) => shown(Label::Store { mode, loc, value }),
+        (Some(loc), Some(value)) => shown(&Need::Store { mode, loc, value }, reply),
         _ => Turn::Halts { label: None },
-    }
-}
-
-/// The label of a compare-exchange that has read `read`.
-fn exchange(mode: Mode, fail: Mode, loc: i64, old: i64, new: i64, read: i64) -> Label
-    ensures { (c : Config) → exchanged mode fail loc old new read c ≡ showing result c }
-{
-    if read == old {
-        Label::Rmw {
-            mode,
-            loc,
-            old,
-            new,
-        }
-    } else {
-        let value = read;
-        Label::Load {
-            mode: fail,
-            loc,
-            value,
-        }
     }
 }
 
@@ -118,19 +97,19 @@ pub fn exchanged(
     };
     match reply {
         Reply::Read { value } => {
-            let read = *value;
-            set(env, slot, read);
-            shown(exchange(modes.0, modes.1, loc, old, new, read))
+            set(env, slot, *value);
+            let (mode, fail) = modes;
+            let op = RmwOp::Cas { old, new };
+            let need = Need::Rmw {
+                mode,
+                fail,
+                loc,
+                op,
+            };
+            shown(&need, reply)
         }
         _ => Turn::Fails,
     }
-}
-
-/// A sum, unless it leaves the range.
-fn sum(a: i64, b: i64) -> Option<i64>
-    ensures { result ≡ in_range (a +ℤ b) }
-{
-    a.checked_add(b)
 }
 
 /// A sum out of range halts the thread, with the label of a load.
@@ -143,23 +122,21 @@ pub fn added(env: &mut List<i64>, slot: u32, mode: Mode, at: &Expr, e: &Expr, re
     let Reply::Read { value } = reply else {
         return Turn::Fails;
     };
-    let old = *value;
-    match sum(old, n) {
-        Some(new) => {
-            set(env, slot, old);
-            shown(Label::Rmw {
-                mode,
-                loc,
-                old,
-                new,
-            })
+    let op = RmwOp::Add { n };
+    let fail = reading_mode(mode);
+    let need = Need::Rmw {
+        mode,
+        fail,
+        loc,
+        op,
+    };
+    let label = label_of(&need, reply);
+    match update_of(&op, value) {
+        Some(_) => {
+            set(env, slot, *value);
+            Turn::Goes { label }
         }
-        None => {
-            let mode = reading_mode(mode);
-            let value = old;
-            let label = Some(Label::Load { mode, loc, value });
-            Turn::Halts { label }
-        }
+        None => Turn::Halts { label },
     }
 }
 
@@ -174,15 +151,17 @@ pub fn swapped(
     ensures { (p : Program) (steps : Seq Step) → Ends p (Act-F.Swap slot mode at.now e.now steps) env.old reply.now env.new (Done.Turns result) }
 {
     match (eval(at, env), eval(e, env), reply) {
-        (Some(loc), Some(new), Reply::Read { value }) => {
-            let old = *value;
-            set(env, slot, old);
-            shown(Label::Rmw {
+        (Some(loc), Some(n), Reply::Read { value }) => {
+            set(env, slot, *value);
+            let fail = reading_mode(mode);
+            let op = RmwOp::Swap { n };
+            let need = Need::Rmw {
                 mode,
+                fail,
                 loc,
-                old,
-                new,
-            })
+                op,
+            };
+            shown(&need, reply)
         }
         (Some(_), Some(_), _) => Turn::Fails,
         _ => Turn::Halts { label: None },

@@ -6,9 +6,8 @@ ghost use Rattle.fsl_core.specs.declared.act.Stmt.{Stmt};
 ghost use Rattle.fsl_core.specs.declared.assertion.Asrt.{Asrt};
 ghost use Rattle.fsl_core.specs.Programs.{Program};
 ghost use Rattle.fsl_moves.specs.Done.{Ends};
-ghost use Rattle.fsl_moves.specs.Numbers.{CanNumber, IsNumbered};
-ghost use Rattle.fsl_moves.specs.Turns.{is_entry};
-ghost use Rattle.fsl_moves.specs.Memory.{act_grows};
+ghost use Rattle.fsl_moves.specs.Moves.{CanNumber, IsNumbered, act_grows};
+ghost use Rattle.fsl_moves.specs.Turn.{is_entry};
 
 use crate::accesses::{added, allocated, exchanged, freed, loaded, set, shown, stored, swapped};
 use crate::calls::{are_possible, arguments, entered};
@@ -17,7 +16,7 @@ use crate::done::{Done, Turn};
 use crate::lists::numbers;
 use crate::needs::kind_at;
 use fsl_base::List;
-use fsl_core::{Act, AllocKind, Called, Cond, Expr, Label, Program, Reply, eval, holds};
+use fsl_core::{Act, AllocKind, Called, Cond, Expr, Label, Need, Program, Reply, eval, holds};
 use std::alloc::{AllocError, Global};
 
 fn assigned(env: &mut List<i64>, slot: u32, e: &Expr) -> Turn
@@ -75,13 +74,11 @@ fn asserted(cond: &Cond, env: &List<i64>) -> Turn
     }
 }
 
-fn printed(e: &Expr, env: &List<i64>) -> Turn
-    ensures { (p : Program) (reply : Reply) → Ends p (Act-F.Print e.now) env.now reply env.now (Done.Turns result) }
+fn printed(e: &Expr, env: &List<i64>, reply: &Reply) -> Turn
+    ensures { (p : Program) → Ends p (Act-F.Print e.now) env.now reply.now env.now (Done.Turns result) }
 {
     match eval(e, env) {
-        Some(value) => Turn::Goes {
-            label: Some(Label::Print { value }),
-        },
+        Some(value) => shown(&Need::Print { value }, reply),
         None => Turn::Halts { label: None },
     }
 }
@@ -177,9 +174,9 @@ pub fn carried_out(
         Act::Set { slot, e } => turns(assigned(env, *slot, e)),
         Act::AllocNa { slot } => turns(allocated(env, *slot, AllocKind::Na, reply)),
         Act::AllocAt { slot, rmw, .. } => turns(allocated(env, *slot, kind_at(*rmw), reply)),
-        Act::Free { at } => turns(freed(at, env)),
+        Act::Free { at } => turns(freed(at, env, reply)),
         Act::Load { slot, mode, at } => turns(loaded(env, *slot, *mode, at, reply)),
-        Act::Store { mode, at, e } => turns(stored(*mode, at, e, env)),
+        Act::Store { mode, at, e } => turns(stored(*mode, at, e, env, reply)),
         Act::Cas {
             slot,
             mode,
@@ -205,11 +202,11 @@ pub fn carried_out(
         } => turns(swapped(env, *slot, *mode, at, e, reply)),
         Act::Call { slot, proc, args } => called(alloc, p, *slot, *proc, args, env),
         Act::Par { calls } => forked(alloc, p, calls, env, reply),
-        Act::Fence { mode, .. } => turns(shown(Label::Fence { mode: *mode })),
+        Act::Fence { mode, .. } => turns(shown(&Need::Fence { mode: *mode }, reply)),
         Act::If { cond, .. } => Ok(branched(cond, env)),
         Act::While { cond, .. } => Ok(repeated(cond, env)),
         Act::Assert { cond } => turns(asserted(cond, env)),
-        Act::Print { e } => turns(printed(e, env)),
+        Act::Print { e } => turns(printed(e, env, reply)),
         Act::Return { e } => turns(returned(e, env)),
         Act::Bank { slot } => turns(banked(env, *slot)),
         Act::Step { .. } => turns(Turn::Goes { label: None }),

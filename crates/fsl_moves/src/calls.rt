@@ -3,7 +3,7 @@ ghost use Rattle.std.specs.Prelude.{◌≡◌, ◌==◌, ◌++◌, ◌-◌, leng
 ghost use Rattle.std.specs.List.{list_any};
 ghost use Rattle.std.specs.Option.{is_some, option_map};
 ghost use Rattle.fsl_core.specs.Moves.{argument, arguments_from, arguments_of, started_of, entered};
-ghost use Rattle.fsl_moves.specs.Configs.{frame_of};
+ghost use Rattle.fsl_moves.specs.Config.{frame_of};
 
 use crate::config::Frame;
 use fsl_base::List;

@@ -2,7 +2,7 @@
 ghost use Rattle.std.specs.Prelude.{◌≡◌};
 ghost use Rattle.fsl_core.specs.Programs.{Program};
 ghost use Rattle.fsl_core.specs.Moves.{standing_of};
-ghost use Rattle.fsl_moves.specs.Configs.{config_of};
+ghost use Rattle.fsl_moves.specs.Config.{config_of};
 
 use fsl_base::List;
 use fsl_core::Standing;
@@ -21,7 +21,9 @@ pub enum Arm {
 /// A block that was entered: one of the statement with this number in the block around it.
 #[derive(Clone, Copy, Debug, PartialEq, Eq)]
 pub struct Entry {
+    /// The statement whose block it is, by its number.
     pub stmt: usize,
+    /// Which block it is.
     pub arm: Arm,
     /// The statement with which the block around goes on: a loop is made again, an `if` is done.
     pub onward: usize,
@@ -30,6 +32,7 @@ pub struct Entry {
 /// A procedure that runs, by its number.
 #[derive(Drop)]
 pub struct Frame {
+    /// Its number among those of the program.
     pub proc: u32,
     /// The blocks that were entered, the innermost last.
     pub path: Vec<Entry>,
@@ -44,7 +47,9 @@ pub struct Frame {
 /// Threads that were started together: `count` of them, with the numbers from `first` on.
 #[derive(Clone, Copy, Debug, PartialEq, Eq)]
 pub struct Children {
+    /// The number of the first.
     pub first: u32,
+    /// How many there are.
     pub count: u32,
 }
 
@@ -58,7 +63,7 @@ pub enum Config {
         below: Vec<Frame>,
         children: Option<Children>,
     },
-    /// The thread has returned.
+    /// The thread has returned this value.
     Returned {
         value: i64,
     },

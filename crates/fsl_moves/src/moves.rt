@@ -3,19 +3,19 @@ ghost use Rattle.std.specs.Prelude.{◌≡◌, ◌<◌, true, false, length, sli
 ghost use Rattle.fsl_core.specs.Programs.{Program};
 ghost use Rattle.fsl_core.specs.Moves as moves;
 ghost use Rattle.fsl_core.specs.Moves.{need_of, moved, start_of, running, joining, numbers_from};
-ghost use Rattle.fsl_moves.specs.Configs.{config_of, frame_of, frames_of, params_of, AreNumbered, Fits};
+ghost use Rattle.fsl_moves.specs.Config.{config_of, frame_of, frames_of, params_of, AreNumbered, Fits};
 ghost use Rattle.fsl_moves.specs.Done.{is_empty};
-ghost use Rattle.fsl_moves.specs.Memory.{is_list, is_access, stmts_grow, grows};
-ghost use Rattle.fsl_moves.specs.Numbers.{HasNumbers};
-ghost use Rattle.fsl_moves.specs.Turns.{turned};
+ghost use Rattle.fsl_moves.specs.Moves.{is_list, is_access, stmts_grow, grows, HasNumbers};
+ghost use Rattle.fsl_moves.specs.Turn.{turned};
 
 use crate::acts::carried_out;
 use crate::calls::entered;
 use crate::config::{Children, Config, Frame};
 use crate::done::Turn;
+use crate::label::label_of;
 use crate::lists::{joined, numbers};
 use crate::needs::asked;
-use crate::places::{next_of, reach};
+use crate::reach::{next_of, reach};
 use crate::turn::{end, settle};
 use fsl_base::List;
 use fsl_core::{Label, Need, Program, Reply};
@@ -126,7 +126,7 @@ fn join(
 
 /// Makes the next move with the answer to what it asks, and gives its label, `None` exactly where the
 /// move is local. An answer of another kind fails the thread. It takes the time of its statement and of
-/// the depth of its place. For want of memory the thread stands where it stood; a move takes memory only
+/// the depth at which that stands. For want of memory the thread stands where it stood; a move takes memory only
 /// where it enters a block or a procedure, or where it starts threads or waits for them.
 pub fn advance(
     alloc: Global,
@@ -158,7 +158,7 @@ pub fn advance(
         Turn::Goes { label } => Ok(label),
         Turn::Returns { value } => {
             *c = Config::Returned { value };
-            Ok(Some(Label::End { value }))
+            Ok(label_of(&Need::End { value }, &reply))
         }
         Turn::Halts { label } => {
             *c = Config::Halted;

@@ -1,7 +1,7 @@
 //! Tests of what no clause says: that moves are made where there is memory.
 ghost use Rattle.std.specs.Prelude.{◌≡◌, ◌<◌, length, IfOk};
-ghost use Rattle.fsl_moves.specs.Configs.{Fits, params_of};
-ghost use Rattle.fsl_moves.specs.Numbers.{HasNumbers};
+ghost use Rattle.fsl_moves.specs.Config.{Fits, params_of};
+ghost use Rattle.fsl_moves.specs.Moves.{HasNumbers};
 
 use crate::{Config, advance, next, standing, start};
 use fsl_base::{List, Span, Text};

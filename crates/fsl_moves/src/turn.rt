@@ -3,10 +3,10 @@ ghost use Rattle.std.specs.Prelude.{◌≡◌, ◌+◌, ◌++◌, ◌∷◌, ◌
 ghost use Rattle.fsl_core.specs.declared.act.Act.TheViews.{out-Act};
 ghost use Rattle.fsl_core.specs.declared.act.Stmt.{Stmt};
 ghost use Rattle.fsl_core.specs.Programs.{Program};
-ghost use Rattle.fsl_moves.specs.Configs.{block_of, frame_of, frames_of, AreNumbered};
+ghost use Rattle.fsl_moves.specs.Config.{block_of, frame_of, frames_of, AreNumbered};
 ghost use Rattle.fsl_moves.specs.Done.{stays, frame_with, returned_to, after};
-ghost use Rattle.fsl_moves.specs.Numbers.{IsNumbered};
-ghost use Rattle.fsl_moves.specs.Turns.{IsAt, behind, onward_at, is_entry, turned};
+ghost use Rattle.fsl_moves.specs.Moves.{IsNumbered};
+ghost use Rattle.fsl_moves.specs.Turn.{IsAt, behind, onward_at, is_entry, turned};
 
 use crate::accesses::set;
 use crate::config::{Arm, Children, Entry, Frame};

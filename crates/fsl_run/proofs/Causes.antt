@@ -3,8 +3,8 @@ use Rattle.std.proofs.Common.{arith, ◌≡◌, ◌∙◌, ◌<◌, ℕ, inl, in
 use Rattle.std.proofs.lemmas.Bool.{cases_order}
 use Rattle.fsl_core.specs.Moves.{Config, running, joining, returned, halted, failed}
 use Rattle.fsl_graph.specs.declared.graph.Graph.{Graph}
-use Rattle.fsl_machine.specs.declared.ends.End.TheVariants as ends
-use Rattle.fsl_machine.specs.Ends.{IsReady, IsReturned, IsStuck}
+use Rattle.fsl_graph.specs.declared.ending.End.TheVariants as ends
+use Rattle.fsl_graph.specs.Ending.{IsReady, IsReturned, IsStuck}
 use Rattle.fsl_run.specs.Laws.{HasOneEnd}
 
 not_stuck : (c : Config) → IsReturned c → IsStuck c → ⊥

@@ -1,4 +1,4 @@
 pub mod Causes
-pub mod Going
+pub mod RunningLemmas
 pub mod Quiet
 pub mod Standing

@@ -4,9 +4,9 @@ use Rattle.fsl_core.specs.Programs.{Program}
 use Rattle.fsl_core.specs.Moves.{Config}
 use Rattle.fsl_graph.specs.declared.graph.Graph.{Graph}
 use Rattle.fsl_graph.specs.Execution.{IsExecution}
-use Rattle.fsl_machine.specs.declared.ends.End.{End}
-use Rattle.fsl_machine.specs.declared.ends.End.TheVariants as ends
-use Rattle.fsl_machine.specs.Ends.{IsEnd}
+use Rattle.fsl_graph.specs.declared.ending.End.{End}
+use Rattle.fsl_graph.specs.declared.ending.End.TheVariants as ends
+use Rattle.fsl_graph.specs.Ending.{IsEnd}
 
 -- a thread stands in one way after the moves of an execution
 abbrev pub StandsInOneWay : Type 0

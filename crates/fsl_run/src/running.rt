@@ -1,14 +1,14 @@
 //! A run from its first move to its end.
 ghost use Rattle.std.specs.Prelude.{◌≡◌, ◌<◌, length, IfOk, IsTrue};
 ghost use Rattle.fsl_core.specs.Straight.{is_straight};
-ghost use Rattle.fsl_machine.specs.Ends.{IsEnd};
-ghost use Rattle.fsl_run.specs.Runs.{IsRunOf};
+ghost use Rattle.fsl_graph.specs.Ending.{IsEnd};
+ghost use Rattle.fsl_run.specs.Running.{IsRunOf};
 
 use fsl_base::{Gate, Spot};
 use fsl_choose::{Choose, Newest, Seeded};
 use fsl_core::Program;
-use fsl_graph::Graph;
-use fsl_machine::{End, Machine, Stepped};
+use fsl_graph::{End, Graph};
+use fsl_machine::{Machine, Stepped};
 use std::alloc::{AllocError, Global};
 
 /// How a program is run.
@@ -25,7 +25,9 @@ pub struct RunWords {
 /// A run: its graph and how it ended.
 #[derive(Drop)]
 pub struct Ran {
+    /// The moves that were made.
     pub graph: Graph,
+    /// Its cause stands in the graph.
     pub end: End,
 }
 
@@ -42,7 +44,7 @@ pub fn run<G: Gate>(alloc: Global, p: Program, how: RunWords, gate: &G) -> Resul
 }
 
 /// Makes moves until the run ends.
-#[tactic(auto, using(crate::proofs::Going::moves_one_more, crate::proofs::Going::length_one_more, crate::proofs::Going::not_refused, crate::proofs::Going::not_spent))]
+#[tactic(auto, using(crate::proofs::RunningLemmas::moves_one_more, crate::proofs::RunningLemmas::length_one_more, crate::proofs::RunningLemmas::not_refused, crate::proofs::RunningLemmas::not_spent))]
 fn finish<C: Choose, G: Gate>(machine: Machine, choose: &mut C, gate: &G) -> Result<Ran, AllocError>
     requires { 0 < length machine.graph.threads }
     ensures { IfOk result (λ ran. IsRunOf machine.program machine.bound ran.graph ran.end) }

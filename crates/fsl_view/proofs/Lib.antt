@@ -1,3 +1,1 @@
-pub mod Entries
-pub mod Places
-pub mod Count
+pub mod EntriesLemmas

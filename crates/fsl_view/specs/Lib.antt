@@ -1,3 +1,3 @@
-pub mod Kept
+pub mod Entries
 pub mod Seen
-pub mod Place
+pub mod View

@@ -1,9 +1,9 @@
 //! Views: up to where the messages of each location are seen. A view keeps an entry for each location
-//! that it was raised at, and contracts see it as a function that is 0 everywhere else.
+//! that it was raised at, and contracts see it as a function that is 0 everywhere else (`specs/Seen.antt`).
 #![tactic(auto)]
 
 mod entry;
-mod place;
+mod entries;
 mod view;
 
 pub use entry::Entry;

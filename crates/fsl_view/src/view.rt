@@ -1,10 +1,11 @@
 //! The view: entries by ascending locations, found by binary search.
 ghost use Rattle.std.specs.Prelude.{◌≡◌, [], ◌≤◌, length, IfOk, OnOk, OnErr, IsOk};
 ghost use Rattle.fsl_view.specs.Seen.{unseen, joined, raised};
-ghost use Rattle.fsl_view.specs.Kept.{seen, raise_in, join_in};
+ghost use Rattle.fsl_view.specs.Entries.{raise_in, join_in};
+ghost use Rattle.fsl_view.specs.View.{seen};
 
 use crate::entry::Entry;
-use crate::place::{look, missing, raise, raise_each};
+use crate::entries::{look, missing, raise, raise_each};
 use std::alloc::{AllocError, Global};
 use std::marker::Model;
 
@@ -16,7 +17,8 @@ pub struct View {
 
 impl Model for View {
     ghost use Rattle.std.specs.Prelude.{vec_capacity};
-    ghost use Rattle.fsl_view.specs.Kept.{Kept, IsAscending};
+    ghost use Rattle.fsl_view.specs.Entries.{IsAscending};
+    ghost use Rattle.fsl_view.specs.View.{Kept};
 
     ghost Value = { Kept };
 

@@ -1,5 +1,5 @@
 use Rattle.std.proofs.Common.{ℕ, ◌<◌, ◌≤◌, ◌^◌, slice_index_or}
-use Rattle.fsl_mem.specs.declared.slot.Slot.{Slot}
+use Rattle.fsl_mem.specs.declared.slots.Slot.{Slot}
 use Rattle.fsl_mem.proofs.candidates.bounded.Given as goal
 
 abbrev pub invariant-loop-slot : goal.invariant-loop-slot

@@ -1,7 +1,6 @@
 use Rattle.std.proofs.Common.{◌≡◌, ◌∙◌, ap, rules, slice_set, ℤ, w64, to_z, of_z, SFits}
 use Rattle.std.proofs.lemmas.Int.{to_z-of_z}
-use Rattle.fsl_core.specs.Moves as moves
-use Rattle.fsl_moves.proofs.Carried.{exchanges}
+use Rattle.fsl_moves.proofs.MovesLemmas.{exchanges_as}
 use Rattle.fsl_moves.proofs.accesses.exchanged.Goals as goal
 
 pub returns-in-Read : goal.returns-in-Read
@@ -13,10 +12,6 @@ returns-in-Read c = λ p steps.
     let into = whole c.in-Some-eval-2.new (search rules) in
     let same = whole read (search rules) in
     let sets = c.set.ensures ∙ ap (λ (v : ℤ). slice_set c.args.env.now c.args.slot v) same in
-    let shows : (k : moves.Config)
-    → moves.exchanged c.args.modes.0 c.args.modes.1 c.in-Some.loc c.in-Some-eval.old c.in-Some-eval-2.new read k ≡ moves.showing c.exchange.result k =
-    λ k. rw (← at, ← from, ← into, ← same) (c.exchange.ensures k) in
-    rw c.shown.ensures
-    (exchanges p c.args.slot c.args.modes.0 c.args.modes.1 c.args.at.now c.args.old.now c.args.new.now steps c.args.env.now c.set.new.env c.args.reply.now
-    c.exchange.result c.in-Some.loc c.in-Some-eval.old c.in-Some-eval-2.new read
-    c.in-Some.ensures c.in-Some-eval.ensures c.in-Some-eval-2.ensures c.in-Read.is sets shows)
+    exchanges_as p c.args.slot c.args.modes.0 c.args.modes.1 c.args.at.now c.args.old.now c.args.new.now steps c.args.env.now c.set.new.env c.args.reply.now
+    c.in-Some.loc c.in-Some-eval.old c.in-Some-eval-2.new read _ _ _ c.shown.result
+    c.in-Some.ensures c.in-Some-eval.ensures c.in-Some-eval-2.ensures c.in-Read.is sets at from into c.shown.ensures

@@ -1,6 +1,6 @@
 use Rattle.std.proofs.Common.{refl}
 use Rattle.fsl_core.specs.declared.act.Act.TheViews.{rolls-Set, rolls-AllocNa, rolls-AllocAt, rolls-Free, rolls-Load, rolls-Store, rolls-Cas, rolls-Add, rolls-Swap, rolls-Assert, rolls-Print, rolls-Return, rolls-Bank}
-use Rattle.fsl_moves.proofs.Carried.{layer_of, made}
+use Rattle.fsl_moves.proofs.MovesLemmas.{layer_of, made}
 use Rattle.fsl_moves.proofs.acts.carried_out.Goals as goal
 
 pub returns-in-Set-clause-done : goal.returns-in-Set-clause-done
@@ -17,7 +17,7 @@ returns-in-AllocAt-clause-done c =
 
 pub returns-in-Free-clause-done : goal.returns-in-Free-clause-done
 returns-in-Free-clause-done c =
-    made c.args.p.now _ _ c.args.env.now c.args.reply.now c.args.env.now _ c.turns-in-Free.result (layer_of _ _ _ c.in-Free.is (rolls-Free _)) c.turns-in-Free.ensures (c.freed.ensures c.args.p.now c.args.reply.now)
+    made c.args.p.now _ _ c.args.env.now c.args.reply.now c.args.env.now _ c.turns-in-Free.result (layer_of _ _ _ c.in-Free.is (rolls-Free _)) c.turns-in-Free.ensures (c.freed.ensures c.args.p.now)
 
 pub returns-in-Load-clause-done : goal.returns-in-Load-clause-done
 returns-in-Load-clause-done c =
@@ -25,7 +25,7 @@ returns-in-Load-clause-done c =
 
 pub returns-in-Store-clause-done : goal.returns-in-Store-clause-done
 returns-in-Store-clause-done c =
-    made c.args.p.now _ _ c.args.env.now c.args.reply.now c.args.env.now _ c.turns-in-Store.result (layer_of _ _ _ c.in-Store.is (rolls-Store _ _ _)) c.turns-in-Store.ensures (c.stored.ensures c.args.p.now c.args.reply.now)
+    made c.args.p.now _ _ c.args.env.now c.args.reply.now c.args.env.now _ c.turns-in-Store.result (layer_of _ _ _ c.in-Store.is (rolls-Store _ _ _)) c.turns-in-Store.ensures (c.stored.ensures c.args.p.now)
 
 pub returns-in-Cas-clause-done : goal.returns-in-Cas-clause-done
 returns-in-Cas-clause-done c =
@@ -45,7 +45,7 @@ returns-in-Assert-clause-done c =
 
 pub returns-in-Print-clause-done : goal.returns-in-Print-clause-done
 returns-in-Print-clause-done c =
-    made c.args.p.now _ _ c.args.env.now c.args.reply.now c.args.env.now _ c.turns-in-Print.result (layer_of _ _ _ c.in-Print.is (rolls-Print _)) c.turns-in-Print.ensures (c.printed.ensures c.args.p.now c.args.reply.now)
+    made c.args.p.now _ _ c.args.env.now c.args.reply.now c.args.env.now _ c.turns-in-Print.result (layer_of _ _ _ c.in-Print.is (rolls-Print _)) c.turns-in-Print.ensures (c.printed.ensures c.args.p.now)
 
 pub returns-in-Return-clause-done : goal.returns-in-Return-clause-done
 returns-in-Return-clause-done c =

@@ -3,8 +3,8 @@ use Rattle.std.specs.Option.{is_some}
 use Rattle.fsl_core.specs.declared.act.Act.TheOpen.{Act-F}
 use Rattle.fsl_core.specs.declared.need.Reply.{Reply}
 use Rattle.fsl_core.specs.Moves.{started_of}
-use Rattle.fsl_moves.specs.Numbers.{CanNumber}
-use Rattle.fsl_moves.proofs.Forks.{have_numbers, starts}
+use Rattle.fsl_moves.specs.Moves.{CanNumber}
+use Rattle.fsl_moves.proofs.ActsLemmas.{have_numbers, starts}
 use Rattle.fsl_moves.proofs.acts.forked.Goals as goal
 
 pub overflow_cast-count : goal.overflow_cast-count

@@ -2,7 +2,7 @@ use Rattle.std.proofs.Common.{◌≡◌, List, Some, length, slice_get, refl, su
 use Rattle.std.proofs.lemmas.Option.{slice_get_read}
 use Rattle.fsl_core.specs.declared.declaration.Proc.{Proc}
 use Rattle.fsl_moves.specs.declared.config.Frame.{Frame}
-use Rattle.fsl_moves.proofs.Frames.{entered_is}
+use Rattle.fsl_moves.proofs.TurnLemmas.{entered_is}
 use Rattle.fsl_moves.proofs.calls.entered.Goals as goal
 
 pub returns : goal.returns

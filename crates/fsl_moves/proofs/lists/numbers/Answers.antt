@@ -1,6 +1,6 @@
 use Rattle.std.proofs.Common.{◌+◌}
 use Rattle.fsl_core.specs.Moves.{numbers_from}
-use Rattle.fsl_moves.proofs.Asked.{numbers_on}
+use Rattle.fsl_moves.proofs.ListsLemmas.{numbers_on}
 use Rattle.fsl_moves.proofs.lists.numbers.Goals as goal
 
 pub loop-thread-preserved : goal.loop-thread-preserved

@@ -2,11 +2,10 @@ use Rattle.std.proofs.Common.{◌≡◌, IfOk, sym, subst, true}
 use Rattle.fsl_core.specs.declared.act.Act.TheViews.{out-Act}
 use Rattle.fsl_core.specs.Moves as moves
 use Rattle.fsl_core.specs.Moves.{moved, need_of, running}
-use Rattle.fsl_moves.specs.Configs.{frame_of, frames_of}
-use Rattle.fsl_moves.specs.Memory.{act_grows, stmts_grow}
-use Rattle.fsl_moves.specs.Numbers.{HasNumbers}
-use Rattle.fsl_moves.specs.Turns.{is_entry, turned}
-use Rattle.fsl_moves.proofs.Carried.{can_number_at, grows_at, moved_on, kept_on, grows_on, said}
+use Rattle.fsl_moves.specs.Config.{frame_of, frames_of}
+use Rattle.fsl_moves.specs.Moves.{act_grows, stmts_grow, HasNumbers}
+use Rattle.fsl_moves.specs.Turn.{is_entry, turned}
+use Rattle.fsl_moves.proofs.MovesLemmas.{can_number_at, grows_at, moved_on, kept_on, grows_on, said}
 use Rattle.fsl_moves.proofs.moves.go_on.Goals as goal
 
 pub carried_out-requires : goal.carried_out-requires

@@ -1,4 +1,4 @@
-use Rattle.fsl_moves.proofs.Asked.{results_fit}
+use Rattle.fsl_moves.proofs.ListsLemmas.{results_fit}
 use Rattle.fsl_moves.proofs.moves.join.Goals as goal
 
 pub joined-requires : goal.joined-requires

@@ -1,4 +1,4 @@
-use Rattle.fsl_moves.proofs.Carried.{asks_next, asks_next_list}
+use Rattle.fsl_moves.proofs.MovesLemmas.{asks_next, asks_next_list}
 use Rattle.fsl_moves.proofs.moves.next_in.Goals as goal
 
 pub returns-in-Some-clause-need : goal.returns-in-Some-clause-need

@@ -1,5 +1,5 @@
 use Rattle.fsl_core.specs.declared.act.Act.TheViews.{rolls-Free, rolls-Load, rolls-Store, rolls-Cas, rolls-Add, rolls-Swap, rolls-Print, rolls-Return, rolls-Par}
-use Rattle.fsl_moves.proofs.Carried.{layer_of, asks_act, lists_act}
+use Rattle.fsl_moves.proofs.MovesLemmas.{layer_of, asks_act, lists_act}
 use Rattle.fsl_moves.proofs.needs.asked.Goals as goal
 
 pub returns-in-Free-clause-need : goal.returns-in-Free-clause-need

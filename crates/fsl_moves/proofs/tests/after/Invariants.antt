@@ -1,5 +1,5 @@
 use Rattle.std.proofs.Common.{◌≤◌}
-use Rattle.fsl_moves.specs.Configs.{Fits}
+use Rattle.fsl_moves.specs.Config.{Fits}
 use Rattle.fsl_moves.proofs.tests.after.Given as goal
 
 abbrev pub invariant-loop-move : goal.invariant-loop-move

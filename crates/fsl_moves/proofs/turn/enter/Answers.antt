@@ -1,10 +1,10 @@
 use Rattle.std.proofs.Common.{◌≡◌, ◌++◌, ◌∷◌, [], ℕ, List, ap, ◌∙◌}
 use Rattle.fsl_core.specs.declared.act.Stmt.{Stmt}
 use Rattle.fsl_moves.specs.declared.config.Entry.{Entry}
-use Rattle.fsl_moves.specs.Configs.{left_from}
+use Rattle.fsl_moves.specs.Config.{left_from}
 use Rattle.fsl_moves.specs.Done.{frame_with}
-use Rattle.fsl_moves.specs.Turns.{body_in, onward_at}
-use Rattle.fsl_moves.proofs.Paths.{enters}
+use Rattle.fsl_moves.specs.Turn.{body_in, onward_at}
+use Rattle.fsl_moves.proofs.ReachLemmas.{enters}
 use Rattle.fsl_moves.proofs.turn.enter.Goals as goal
 
 pub returns-clause-entered : goal.returns-clause-entered

@@ -1,6 +1,6 @@
 use Rattle.std.proofs.Common.{ℕ, sym, subst}
 use Rattle.fsl_graph.specs.declared.graph.Graph.{Graph}
-use Rattle.fsl_machine.specs.Ends.{IsEnd}
+use Rattle.fsl_graph.specs.Ending.{IsEnd}
 use Rattle.fsl_run.proofs.running.ended.Goals as goal
 
 pub returns : goal.returns

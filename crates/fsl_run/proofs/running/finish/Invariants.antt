@@ -1,5 +1,5 @@
 use Rattle.std.proofs.Common.{◌≡◌, ◌<◌, ◌-◌, length}
-use Rattle.fsl_machine.specs.States.{moves_of}
+use Rattle.fsl_graph.specs.Ending.{moves_of}
 use Rattle.fsl_run.proofs.running.finish.Given as goal
 
 abbrev pub invariant-loop-end : goal.invariant-loop-end

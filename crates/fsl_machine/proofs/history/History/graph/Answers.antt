@@ -1,7 +1,7 @@
 use Rattle.std.proofs.Common.{subst}
 use Rattle.fsl_graph.specs.Lone.{IsLone}
 use Rattle.fsl_machine.specs.States.{with_trace}
-use Rattle.fsl_machine.specs.Trace.{Trace}
+use Rattle.fsl_machine.specs.History.{Trace}
 use Rattle.fsl_machine.proofs.Lone.{is_lone}
 use Rattle.fsl_machine.proofs.history.History.graph.Goals as goal
 

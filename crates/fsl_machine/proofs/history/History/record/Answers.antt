@@ -1,6 +1,6 @@
 use Rattle.std.proofs.Common.{◌≡◌, length, rules}
-use Rattle.fsl_machine.specs.Trace.{Trace}
-use Rattle.fsl_machine.proofs.Kept.{record_keeps}
+use Rattle.fsl_machine.specs.History.{Trace}
+use Rattle.fsl_machine.proofs.HistoryLemmas.{record_keeps}
 use Rattle.fsl_machine.proofs.history.History.record.Goals as goal
 
 pub invariant_of-self-2 : goal.invariant_of-self-2

@@ -1,9 +1,9 @@
 use Rattle.std.proofs.Common.{subst, ◌∙◌}
-use Rattle.fsl_machine.specs.Ends.{IsReturned}
+use Rattle.fsl_graph.specs.Ending.{IsReturned}
 use Rattle.fsl_machine.specs.States.{State}
-use Rattle.fsl_moves.specs.Configs.{config_of}
+use Rattle.fsl_moves.specs.Config.{config_of}
 use Rattle.fsl_machine.proofs.Returned.{is_returned}
-use Rattle.fsl_machine.proofs.Steps.{waits_for_none}
+use Rattle.fsl_machine.proofs.MachineLemmas.{waits_for_none}
 use Rattle.fsl_machine.proofs.machine.Machine.end.Goals as goal
 
 pub returns-in-Done-clause-cause : goal.returns-in-Done-clause-cause

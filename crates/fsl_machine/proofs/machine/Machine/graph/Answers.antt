@@ -3,9 +3,9 @@ use Rattle.fsl_core.specs.Moves.{Config}
 use Rattle.fsl_graph.specs.declared.graph.Graph.{Graph}
 use Rattle.fsl_graph.specs.declared.graph.Thread.{Thread}
 use Rattle.fsl_graph.specs.Execution.{IsExecution}
-use Rattle.fsl_moves.specs.Configs.{config_of}
+use Rattle.fsl_moves.specs.Config.{config_of}
 use Rattle.fsl_machine.specs.States.{State, with_trace, lone_graph}
-use Rattle.fsl_machine.specs.Trace.{allocations}
+use Rattle.fsl_graph.specs.Ending.{allocations}
 use Rattle.fsl_machine.proofs.Executions.{is_execution}
 use Rattle.fsl_machine.proofs.machine.Machine.graph.Goals as goal
 

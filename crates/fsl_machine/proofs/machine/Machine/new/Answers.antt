@@ -1,4 +1,4 @@
-use Rattle.fsl_machine.proofs.Steps.{begins}
+use Rattle.fsl_machine.proofs.MachineLemmas.{begins}
 use Rattle.fsl_machine.proofs.machine.Machine.new.Goals as goal
 
 pub invariant_of-result : goal.invariant_of-result

@@ -1,4 +1,4 @@
-use Rattle.fsl_mem.proofs.Numbers.{source_within}
+use Rattle.fsl_mem.proofs.SlotsLemmas.{source_within}
 use Rattle.fsl_mem.proofs.memory.Memory.end_of.Goals as goal
 
 pub message-requires : goal.message-requires

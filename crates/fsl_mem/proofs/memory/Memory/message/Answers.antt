@@ -1,6 +1,6 @@
 use Rattle.std.proofs.Common.{◌∙◌, ap, List, slice_get}
 use Rattle.fsl_mem.specs.declared.message.Message.{Message}
-use Rattle.fsl_mem.proofs.Numbers.{message_item}
+use Rattle.fsl_mem.proofs.SlotsLemmas.{message_item}
 use Rattle.fsl_mem.proofs.memory.Memory.message.Goals as goal
 
 pub returns : goal.returns

@@ -1,5 +1,5 @@
 use Rattle.std.proofs.Common.{ℕ, ◌≤◌, ◌^◌, sym, subst}
-use Rattle.fsl_mem.proofs.Numbers.{end_bounded}
+use Rattle.fsl_mem.proofs.SlotsLemmas.{end_bounded}
 use Rattle.fsl_mem.proofs.memory.Memory.room_after.Goals as goal
 
 pub after-requires : goal.after-requires

@@ -1,4 +1,4 @@
-use Rattle.fsl_view.proofs.Entries.{seen_join}
+use Rattle.fsl_view.proofs.EntriesLemmas.{seen_join}
 use Rattle.fsl_view.proofs.view.View.join.Goals as goal
 
 pub returns-clause-seen : goal.returns-clause-seen

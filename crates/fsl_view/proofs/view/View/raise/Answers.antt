@@ -1,7 +1,7 @@
 use Rattle.std.proofs.lemmas.Result.{on_ok_weaker}
 use Rattle.std.proofs.Common.{◌∙◌, ap, ℤ, to_z-of_z}
-use Rattle.fsl_view.specs.Kept.{raise_in}
-use Rattle.fsl_view.proofs.Entries.{seen_raise}
+use Rattle.fsl_view.specs.Entries.{raise_in}
+use Rattle.fsl_view.proofs.EntriesLemmas.{seen_raise}
 use Rattle.fsl_view.proofs.view.View.raise.Goals as goal
 
 pub returns-clause-seen : goal.returns-clause-seen

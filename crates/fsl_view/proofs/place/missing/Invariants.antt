@@ -1,9 +1,0 @@
-use Rattle.std.proofs.Common.{◌≡◌, ◌+◌, ◌≤◌, drop}
-use Rattle.fsl_view.proofs.Count.{new_ones}
-use Rattle.fsl_view.proofs.place.missing.Given as goal
-
-abbrev pub invariant-loop-other : goal.invariant-loop-other
-invariant-loop-other l = record {
-  counted : l.count + new_ones l.entries (drop l.other-index l.others) ≡ new_ones l.entries l.others;
-  few : l.count ≤ l.other-index;
-}
