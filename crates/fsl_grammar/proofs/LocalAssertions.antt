@@ -236,6 +236,7 @@ unfolding read_clause_of
 clause_shut word i j ts = same_next (take word ts) _ _ (λ place us. shut kind.OpenParen us _ _)
 
 no_atom_inside : (i j : Reader Atom) (ts : Tokens) → read_atom_of 0 i ts ≡ read_atom_of 0 j ts
+unfolding read_choice read_raised read_lowered read_clause_of read_test
 no_atom_inside i j ts = same_rest (is_next kind.Emp ts) _ _ _ (same_both (is_next kind.If ts) _ _ _ _ (test_shut kind.If ts _ _)
     (same_both (is_next kind.Up ts) _ _ _ _ (rw (clause_shut kind.Up i j ts) refl) (same_both (is_next kind.Down ts) _ _ _ _ (rw
     (clause_shut kind.Down i j ts) refl) refl)))

@@ -78,6 +78,7 @@ pub same_both : {A : Type 0} (c : Bool) (w x y z : Outcome A) → w ≡ x → y 
 same_both c w x y z d e = rw (d, e) refl
 
 no_factor_inside : (i j : Reader Factor) (ts : Tokens) → read_factor_of 0 i ts ≡ read_factor_of 0 j ts
+unfolding read_negative read_group
 no_factor_inside i j ts = same_rest (is_number_next ts) _ _ _ (same_rest (is_next kind.Name ts) _ _ _ (same_rest (is_next kind.ResultWord ts) _ _ _
     (same_both (is_next kind.Minus ts) _ _ _ _ (shut kind.Minus ts _ _) (shut kind.OpenParen ts _ _))))
 
@@ -102,6 +103,7 @@ name_factor_skips zero place = record { skips = λ a. omega arith }
 name_factor_skips (suc n) place = record { skips = λ a. omega arith }
 
 pub name_expression_skips : (n : ℕ) (place : Span) → Skips (fixed kind.Name place) (read_expression n)
+unfolding read_expression_of read_term
 name_expression_skips n place =
     let rooms : Rooms (Unit {0}) n n = record { more = omega arith; same = λ p. refl } in
     let each : Local (Unit {0}) 1 (read_factor n) (read_factor n) = factor_local rooms in

@@ -14,6 +14,7 @@ use Rattle.fsl_grammar.proofs.LocalGroups.{enclosed_local, test_local, pair_loca
 use Rattle.fsl_grammar.proofs.LocalAssertions.{assertion_local, clause_local}
 use Rattle.fsl_grammar.proofs.LocalExpressions.{same_both}
 use Rattle.fsl_grammar.proofs.LocalAssertions.{test_shut}
+use Rattle.fsl_grammar.specs.ReadGroups.{read_test}
 
 pub mode_local : {P : Type 0} → Local P 1 read_mode read_mode
 unfolding read_mode
@@ -280,6 +281,7 @@ statement_of_local rooms each =
 
 -- with no room nothing is read inside
 no_statement_inside : (i j : Reader Statement) (ts : Tokens) → read_statement_of 0 i ts ≡ read_statement_of 0 j ts
+unfolding read_if read_while read_test
 no_statement_inside i j ts = same_both (is_next kind.If ts) _ _ _ _ (test_shut kind.If ts _ _) (same_both (is_next kind.While ts) _ _ _ _
     (test_shut kind.While ts _ _) refl)
 

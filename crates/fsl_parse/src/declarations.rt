@@ -3,17 +3,15 @@ ghost use Rattle.std.specs.Prelude.{◌<◌, ◌≤◌, length, OnOk};
 ghost use Rattle.fsl_grammar.specs.Readers.{ReadsAs, many_of};
 ghost use Rattle.fsl_grammar.specs.Heads.{is_next};
 ghost use Rattle.fsl_grammar.specs.ReadAssertions.{read_part};
-ghost use Rattle.fsl_grammar.specs.ReadStatements.{read_optional_clause};
 ghost use Rattle.fsl_grammar.specs.ReadDeclarations.{read_contracted, read_contracted_procedure, read_declaration, read_ensured, read_header, read_invariant, read_next_parameter, read_optional_parameters, read_parameter, read_parameters, read_predicate};
-ghost use Rattle.fsl_token.specs.declared.kind.TokenKind.TheVariants.{Comma, Ensures, OpenBrace, Requires};
+ghost use Rattle.fsl_token.specs.declared.kind.TokenKind.TheVariants.{Comma, OpenBrace};
 
 use crate::parser::Parser;
 use fsl_base::List;
 use fsl_grammar::{Contracted, Ensured, Fault, Header};
 use fsl_token::TokenKind;
 use fsl_tree::{
-    Clause, Declaration, Invariant, NextParameter, Parameter, Parameters, Part, Predicate,
-    Procedure,
+    Declaration, Invariant, NextParameter, Parameter, Parameters, Part, Predicate, Procedure,
 };
 use std::alloc::Global;
 
@@ -142,7 +140,7 @@ impl<'a> Parser<'a> {
         ensures shorter { OnOk result (length self.new.rest.now < length self.old.rest.now) }
         ensures agrees { ReadsAs result self.new.rest.now (read_contracted room) self.old.rest.now }
     {
-        let requires_clause = self.requires_clause(alloc, room)?;
+        let requires_clause = self.optional_clause(alloc, TokenKind::Requires, room)?;
         let Ensured {
             ensures_clause,
             body,
@@ -160,38 +158,12 @@ impl<'a> Parser<'a> {
         ensures shorter { OnOk result (length self.new.rest.now < length self.old.rest.now) }
         ensures agrees { ReadsAs result self.new.rest.now (read_ensured room) self.old.rest.now }
     {
-        let ensures_clause = self.ensures_clause(alloc, room)?;
+        let ensures_clause = self.optional_clause(alloc, TokenKind::Ensures, room)?;
         let body = self.block(alloc, room)?;
         Ok(Ensured {
             ensures_clause,
             body,
         })
-    }
-
-    /// `[ "requires" "(" assertion ")" ]`
-    #[tactic(auto, unfolding(fsl_grammar::specs::ReadStatements::read_optional_clause))]
-    fn requires_clause(&mut self, alloc: Global, room: u32) -> Result<Option<Clause>, Fault>
-        ensures shorter { OnOk result (length self.new.rest.now ≤ length self.old.rest.now) }
-        ensures agrees { ReadsAs result self.new.rest.now (read_optional_clause Requires room) self.old.rest.now }
-    {
-        if self.is_next(TokenKind::Requires) {
-            Ok(Some(self.clause(alloc, TokenKind::Requires, room)?))
-        } else {
-            Ok(None)
-        }
-    }
-
-    /// `[ "ensures" "(" assertion ")" ]`
-    #[tactic(auto, unfolding(fsl_grammar::specs::ReadStatements::read_optional_clause))]
-    fn ensures_clause(&mut self, alloc: Global, room: u32) -> Result<Option<Clause>, Fault>
-        ensures shorter { OnOk result (length self.new.rest.now ≤ length self.old.rest.now) }
-        ensures agrees { ReadsAs result self.new.rest.now (read_optional_clause Ensures room) self.old.rest.now }
-    {
-        if self.is_next(TokenKind::Ensures) {
-            Ok(Some(self.clause(alloc, TokenKind::Ensures, room)?))
-        } else {
-            Ok(None)
-        }
     }
 
     /// A word, `NAME "(" [ parameters ] ")"`

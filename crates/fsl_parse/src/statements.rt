@@ -3,7 +3,7 @@ ghost use Rattle.std.specs.Prelude.{◌≡◌, ◌-◌, ◌<◌, ◌≤◌, leng
 ghost use Rattle.fsl_grammar.specs.Readers.{ReadsAs, many_of};
 ghost use Rattle.fsl_grammar.specs.Heads.{is_next};
 ghost use Rattle.fsl_grammar.specs.ReadStatements.{goes_on, read_assert, read_assign, read_bank, read_block, read_call, read_fence, read_fence_kind, read_free, read_guarded, read_guarded_while, read_if, read_let, read_optional_clause, read_optional_expression, read_optional_otherwise, read_parallel, read_parallel_call, read_print, read_release, read_release_word, read_return, read_simple_statement, read_statement, read_step_statement, read_store};
-ghost use Rattle.fsl_token.specs.declared.kind.TokenKind.TheVariants.{Inv, Name};
+ghost use Rattle.fsl_token.specs.declared.kind.TokenKind.TheVariants.{Name};
 
 use crate::parser::Parser;
 use fsl_base::List;
@@ -140,19 +140,24 @@ impl<'a> Parser<'a> {
         ensures shorter { OnOk result (length self.new.rest.now < length self.old.rest.now) }
         ensures agrees { ReadsAs result self.new.rest.now (read_guarded room (read_statement (room - 1))) self.old.rest.now }
     {
-        let invariant = self.optional_invariant(alloc, room)?;
+        let invariant = self.optional_clause(alloc, TokenKind::Inv, room)?;
         let body = self.block(alloc, room)?;
         Ok(Guarded { invariant, body })
     }
 
-    /// `[ "inv" "(" assertion ")" ]`
+    /// `[ word "(" assertion ")" ]`
     #[tactic(auto, unfolding(fsl_grammar::specs::ReadStatements::read_optional_clause))]
-    fn optional_invariant(&mut self, alloc: Global, room: u32) -> Result<Option<Clause>, Fault>
+    pub fn optional_clause(
+        &mut self,
+        alloc: Global,
+        word: TokenKind,
+        room: u32,
+    ) -> Result<Option<Clause>, Fault>
         ensures shorter { OnOk result (length self.new.rest.now ≤ length self.old.rest.now) }
-        ensures agrees { ReadsAs result self.new.rest.now (read_optional_clause Inv room) self.old.rest.now }
+        ensures agrees { ReadsAs result self.new.rest.now (read_optional_clause word room) self.old.rest.now }
     {
-        if self.is_next(TokenKind::Inv) {
-            Ok(Some(self.clause(alloc, TokenKind::Inv, room)?))
+        if self.is_next(word) {
+            Ok(Some(self.clause(alloc, word, room)?))
         } else {
             Ok(None)
         }
