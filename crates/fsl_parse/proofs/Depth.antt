@@ -6,15 +6,15 @@ use Rattle.fsl_tree.specs.declared.file.File.{File}
 use Rattle.fsl_tree.specs.SpelledExpressions.{Tokens}
 use Rattle.fsl_tree.specs.Spelling.{spelling}
 use Rattle.fsl_tree.specs.Nesting.{nesting}
-use Rattle.fsl_parse.specs.Levels.{Open, after_one, deepest_from, deepest}
-use Rattle.fsl_parse.specs.Readers.{Outcome, Found, Wrong, Deep}
-use Rattle.fsl_parse.specs.ReadDeclarations.{read_file}
+use Rattle.fsl_grammar.specs.Levels.{Open, after_one, deepest_from, deepest}
+use Rattle.fsl_grammar.specs.Readers.{Outcome, Found, Wrong, Deep}
+use Rattle.fsl_grammar.specs.ReadDeclarations.{read_file}
 use Rattle.fsl_parse.specs.Refusal.{StopsThere}
-use Rattle.fsl_parse.proofs.Level.{Level, On, Off, Over, Passes, Any, open_after, deepest_append}
+use Rattle.fsl_grammar.proofs.Level.{Level, On, Off, Over, Passes, Any, open_after, deepest_append}
 use Rattle.fsl_parse.proofs.Place.{start, levels}
-use Rattle.fsl_parse.proofs.SoundDeclarations.{file_sound}
+use Rattle.fsl_grammar.proofs.SoundDeclarations.{file_sound}
 use Rattle.fsl_parse.proofs.Stops.{wrong_stops}
-use Rattle.fsl_parse.proofs.WholeDeclarations.{file_reads, one_spelling}
+use Rattle.fsl_grammar.proofs.WholeDeclarations.{file_reads, one_spelling}
 
 -- ---- a file within some levels has tokens within them
 

@@ -6,10 +6,10 @@ use Rattle.fsl_tree.specs.declared.file.File.{File}
 use Rattle.fsl_tree.specs.SpelledExpressions.{Tokens}
 use Rattle.fsl_tree.specs.Spelling.{spelling}
 use Rattle.fsl_tree.specs.Nesting.{nesting}
-use Rattle.fsl_parse.specs.Levels.{deepest}
+use Rattle.fsl_grammar.specs.Levels.{deepest}
 use Rattle.fsl_parse.specs.Refusal.{BeginsFile, StopsThere, IsUnexpected, IsDeep}
 use Rattle.fsl_parse.proofs.Depth.{depth_of_tokens, not_stopped}
-use Rattle.fsl_parse.proofs.Level.{deepest_append, open_after}
+use Rattle.fsl_grammar.proofs.Level.{deepest_append, open_after}
 use Rattle.fsl_parse.proofs.Place.{start}
 
 -- of two beginnings of the same tokens one begins with the other

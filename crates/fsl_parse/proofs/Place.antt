@@ -5,19 +5,19 @@ use Rattle.fsl_token.specs.declared.kind.Token.{Token}
 use Rattle.fsl_tree.specs.declared.file.File.{File}
 use Rattle.fsl_tree.specs.SpelledExpressions.{Tokens, Spelled, all}
 use Rattle.fsl_tree.specs.Spelling.{declaration, spelling}
-use Rattle.fsl_parse.specs.declared.fault.Fault.{Fault}
-use Rattle.fsl_parse.specs.declared.fault.Fault.TheVariants as stops
-use Rattle.fsl_parse.specs.Levels.{Open, after_one, deepest}
-use Rattle.fsl_parse.specs.Readers.{Outcome, Found, Wrong, Deep, seen}
-use Rattle.fsl_parse.specs.ReadDeclarations.{read_file}
+use Rattle.fsl_grammar.specs.declared.fault.Fault.{Fault}
+use Rattle.fsl_grammar.specs.declared.fault.Fault.TheVariants as stops
+use Rattle.fsl_grammar.specs.Levels.{Open, after_one, deepest}
+use Rattle.fsl_grammar.specs.Readers.{Outcome, Found, Wrong, Deep, seen}
+use Rattle.fsl_grammar.specs.ReadDeclarations.{read_file}
 use Rattle.fsl_parse.specs.Refusal.{BeginsFile, IsUnexpected, IsDeep, IsPlaced, placed}
-use Rattle.fsl_parse.proofs.Begun.{nothing, Goes, GoesOn, Fails, TooDeep}
-use Rattle.fsl_parse.proofs.BegunDeclarations.{file_goes}
-use Rattle.fsl_parse.proofs.Level.{Level, On, Off, Over, Passes, Fits, Any, at, open_after, deepest_append}
-use Rattle.fsl_parse.proofs.LevelDeclarations.{file_level}
-use Rattle.fsl_parse.proofs.SoundDeclarations.{file_sound}
+use Rattle.fsl_grammar.proofs.Begun.{nothing, Goes, GoesOn, Fails, TooDeep}
+use Rattle.fsl_grammar.proofs.BegunDeclarations.{file_goes}
+use Rattle.fsl_grammar.proofs.Level.{Level, On, Off, Over, Passes, Fits, Any, at, open_after, deepest_append}
+use Rattle.fsl_grammar.proofs.LevelDeclarations.{file_level}
+use Rattle.fsl_grammar.proofs.SoundDeclarations.{file_sound}
 use Rattle.fsl_parse.proofs.Stops.{wrong_stops}
-use Rattle.fsl_parse.proofs.WholeDeclarations.{one_spelling}
+use Rattle.fsl_grammar.proofs.WholeDeclarations.{one_spelling}
 
 abbrev file_tokens : File → Spelled
 file_tokens f after = all (map declaration f.declarations) after

@@ -4,13 +4,13 @@ use Rattle.fsl_tree.specs.declared.file.File.{File}
 use Rattle.fsl_tree.specs.SpelledExpressions.{Tokens}
 use Rattle.fsl_tree.specs.Spelling.{spelling}
 use Rattle.fsl_tree.specs.Nesting.{nesting}
-use Rattle.fsl_parse.specs.declared.fault.Fault.{Fault}
-use Rattle.fsl_parse.specs.declared.fault.Fault.TheVariants as stops
-use Rattle.fsl_parse.specs.Readers.{Outcome, Found, Wrong, Deep, seen}
-use Rattle.fsl_parse.specs.ReadDeclarations.{read_file}
+use Rattle.fsl_grammar.specs.declared.fault.Fault.{Fault}
+use Rattle.fsl_grammar.specs.declared.fault.Fault.TheVariants as stops
+use Rattle.fsl_grammar.specs.Readers.{Outcome, Found, Wrong, Deep, seen}
+use Rattle.fsl_grammar.specs.ReadDeclarations.{read_file}
 use Rattle.fsl_parse.specs.Refusal.{IsNoFile, IsRefused, placed}
-use Rattle.fsl_parse.proofs.SoundDeclarations.{file_sound}
-use Rattle.fsl_parse.proofs.WholeDeclarations.{file_reads}
+use Rattle.fsl_grammar.proofs.SoundDeclarations.{file_sound}
+use Rattle.fsl_grammar.proofs.WholeDeclarations.{file_reads}
 
 pub spelled : (file : File) (left tokens : Tokens) → Found file left ≡ read_file 64 tokens → spelling file ≡ tokens
 spelled file left tokens h = sym ((file_sound 64 tokens).holds file left (sym h)).found

@@ -7,12 +7,12 @@ use Rattle.fsl_tree.specs.declared.file.File.{File}
 use Rattle.fsl_tree.specs.SpelledExpressions.{Tokens}
 use Rattle.fsl_tree.specs.Spelling.{spelling}
 use Rattle.fsl_tree.specs.Nesting.{nesting}
-use Rattle.fsl_parse.specs.Readers.{Outcome, Found, Wrong, Deep}
-use Rattle.fsl_parse.specs.ReadDeclarations.{read_file}
+use Rattle.fsl_grammar.specs.Readers.{Outcome, Found, Wrong, Deep}
+use Rattle.fsl_grammar.specs.ReadDeclarations.{read_file}
 use Rattle.fsl_parse.specs.Refusal.{BeginsFile, StopsThere}
-use Rattle.fsl_parse.proofs.Local.{left_of, Same, Finds, Wrongs, Deeps, Past, Steady, Kept, Deeper, Rooms}
-use Rattle.fsl_parse.proofs.LocalDeclarations.{file_local}
-use Rattle.fsl_parse.proofs.WholeDeclarations.{file_reads}
+use Rattle.fsl_grammar.proofs.Local.{left_of, Same, Finds, Wrongs, Deeps, Past, Steady, Kept, Deeper, Rooms}
+use Rattle.fsl_grammar.proofs.LocalDeclarations.{file_local}
+use Rattle.fsl_grammar.proofs.WholeDeclarations.{file_reads}
 
 no_less : {token : Token} {back : Tokens} {o : Outcome File} → o ≡ Wrong (token ∷ back) → length (left_of o) ≤ length back → ⊥
 no_less {token = token} {back = back} {o = o} e h = let k : left_of o ≡ token ∷ back = rw e refl in omega (arith, ap length k)

@@ -1,9 +1,1 @@
-pub mod Heads
-pub mod Levels
-pub mod ReadAssertions
-pub mod ReadDeclarations
-pub mod ReadExpressions
-pub mod ReadGroups
-pub mod ReadStatements
-pub mod Readers
 pub mod Refusal

@@ -6,9 +6,9 @@ use Rattle.fsl_tree.specs.declared.file.File.{File}
 use Rattle.fsl_tree.specs.SpelledExpressions.{Tokens}
 use Rattle.fsl_tree.specs.Spelling.{spelling}
 use Rattle.fsl_tree.specs.Nesting.{nesting}
-use Rattle.fsl_parse.specs.Levels.{deepest}
-use Rattle.fsl_parse.specs.declared.fault.Fault.{Fault}
-use Rattle.fsl_parse.specs.declared.fault.Fault.TheVariants as stops
+use Rattle.fsl_grammar.specs.Levels.{deepest}
+use Rattle.fsl_grammar.specs.declared.fault.Fault.{Fault}
+use Rattle.fsl_grammar.specs.declared.fault.Fault.TheVariants as stops
 use Rattle.fsl_parse.specs.declared.fault.ParseFault.{ParseFault}
 use Rattle.fsl_parse.specs.declared.fault.ParseFault.TheVariants as faults
 

@@ -1,14 +1,13 @@
 //! Assertions.
 ghost use Rattle.std.specs.Prelude.{◌≡◌, ◌||◌, ◌-◌, ◌<◌, ◌≤◌, length, OnOk};
-ghost use Rattle.fsl_parse.specs.Readers.{ReadsAs, many_of};
-ghost use Rattle.fsl_parse.specs.Heads.{is_next};
-ghost use Rattle.fsl_parse.specs.ReadAssertions.{read_acquire_permission, read_arm, read_assertion, read_atom, read_bank_amount, read_bank_word, read_choice, read_clause, read_comparison_to, read_conjunct, read_initialised, read_lowered, read_named_or_related, read_optional_share, read_part, read_pattern, read_permission, read_points_to, read_raised, read_relation, read_release_permission, read_update_permission};
+ghost use Rattle.fsl_grammar.specs.Readers.{ReadsAs, many_of};
+ghost use Rattle.fsl_grammar.specs.Heads.{is_next};
+ghost use Rattle.fsl_grammar.specs.ReadAssertions.{read_acquire_permission, read_arm, read_assertion, read_atom, read_bank_amount, read_bank_word, read_choice, read_clause, read_comparison_to, read_conjunct, read_initialised, read_lowered, read_named_or_related, read_optional_share, read_part, read_pattern, read_permission, read_points_to, read_raised, read_relation, read_release_permission, read_update_permission};
 ghost use Rattle.fsl_token.specs.declared.kind.TokenKind.TheVariants.{AuthAssertion, Separate, TokAssertion};
 
-use crate::fault::Fault;
-use crate::groups::{Arm, Enclosed, ExcludedSet, Held, Permission, Test};
-use crate::parser::{Numeral, Parser};
+use crate::parser::Parser;
 use fsl_base::{Boxed, List};
+use fsl_grammar::{Arm, Enclosed, ExcludedSet, Fault, Held, Numeral, Permission, Test};
 use fsl_token::TokenKind;
 use fsl_tree::{Assertion, Atom, BankWord, Clause, Conjunct, Part, Pattern, Relation, Share};
 use std::alloc::Global;
@@ -16,6 +15,7 @@ use std::alloc::Global;
 impl<'a> Parser<'a> {
     /// `atom { "&*&" atom }`
     #[cycle(assertion)]
+    #[tactic(auto, unfolding(fsl_grammar::specs::ReadAssertions::read_assertion_of))]
     pub fn assertion(&mut self, alloc: Global, room: u32) -> Result<Assertion, Fault>
         ensures shorter { OnOk result (length self.new.rest.now < length self.old.rest.now) }
         ensures agrees { ReadsAs result self.new.rest.now (read_assertion room) self.old.rest.now }
@@ -27,7 +27,7 @@ impl<'a> Parser<'a> {
 
     /// `{ "&*&" atom }`
     #[cycle(assertion)]
-    #[tactic(auto, using(crate::proofs::Turns::going_start, crate::proofs::Turns::going_step))]
+    #[tactic(auto, using(fsl_grammar::proofs::Turns::going_start, fsl_grammar::proofs::Turns::going_step))]
     fn conjuncts(&mut self, alloc: Global, room: u32) -> Result<List<Conjunct>, Fault>
         ensures shorter { OnOk result (length self.new.rest.now ≤ length self.old.rest.now) }
         ensures agrees { ReadsAs result self.new.rest.now (many_of (is_next Separate) (read_conjunct (read_atom room))) self.old.rest.now }
@@ -41,6 +41,7 @@ impl<'a> Parser<'a> {
 
     /// `"&*&" atom`
     #[cycle(assertion)]
+    #[tactic(auto, unfolding(fsl_grammar::specs::ReadAssertions::read_conjunct))]
     fn conjunct(&mut self, alloc: Global, room: u32) -> Result<Conjunct, Fault>
         ensures shorter { OnOk result (length self.new.rest.now < length self.old.rest.now) }
         ensures agrees { ReadsAs result self.new.rest.now (read_conjunct (read_atom room)) self.old.rest.now }
@@ -83,6 +84,7 @@ impl<'a> Parser<'a> {
 
     /// `"if" "(" condition ")" "{" assertion "}" "else" "{" assertion "}"`
     #[cycle(assertion)]
+    #[tactic(auto, unfolding(fsl_grammar::specs::ReadAssertions::read_choice))]
     fn choice(&mut self, alloc: Global, room: u32) -> Result<Atom, Fault>
         ensures shorter { OnOk result (length self.new.rest.now < length self.old.rest.now) }
         ensures agrees { ReadsAs result self.new.rest.now (read_choice room (read_atom (room - 1))) self.old.rest.now }
@@ -113,6 +115,7 @@ impl<'a> Parser<'a> {
 
     /// `"{" assertion "}"`, the assertion on the heap
     #[cycle(assertion)]
+    #[tactic(auto, unfolding(fsl_grammar::specs::ReadAssertions::read_arm))]
     fn arm(&mut self, alloc: Global, room: u32) -> Result<Arm, Fault>
         ensures shorter { OnOk result (length self.new.rest.now < length self.old.rest.now) }
         ensures agrees { ReadsAs result self.new.rest.now (read_arm room (read_atom (room - 1))) self.old.rest.now }
@@ -132,6 +135,7 @@ impl<'a> Parser<'a> {
 
     /// `"up" "(" assertion ")"`
     #[cycle(assertion)]
+    #[tactic(auto, unfolding(fsl_grammar::specs::ReadAssertions::read_raised))]
     fn raised(&mut self, alloc: Global, room: u32) -> Result<Atom, Fault>
         ensures shorter { OnOk result (length self.new.rest.now < length self.old.rest.now) }
         ensures agrees { ReadsAs result self.new.rest.now (read_raised room (read_atom (room - 1))) self.old.rest.now }
@@ -153,6 +157,7 @@ impl<'a> Parser<'a> {
 
     /// `"down" "(" assertion ")"`
     #[cycle(assertion)]
+    #[tactic(auto, unfolding(fsl_grammar::specs::ReadAssertions::read_lowered))]
     fn lowered(&mut self, alloc: Global, room: u32) -> Result<Atom, Fault>
         ensures shorter { OnOk result (length self.new.rest.now < length self.old.rest.now) }
         ensures agrees { ReadsAs result self.new.rest.now (read_lowered room (read_atom (room - 1))) self.old.rest.now }
@@ -174,6 +179,7 @@ impl<'a> Parser<'a> {
 
     /// A word and `"(" assertion ")"`
     #[cycle(assertion)]
+    #[tactic(auto, unfolding(fsl_grammar::specs::ReadAssertions::read_clause_of))]
     pub fn clause(&mut self, alloc: Global, word: TokenKind, room: u32) -> Result<Clause, Fault>
         ensures shorter { OnOk result (length self.new.rest.now < length self.old.rest.now) }
         ensures agrees { ReadsAs result self.new.rest.now (read_clause word room) self.old.rest.now }
@@ -192,6 +198,7 @@ impl<'a> Parser<'a> {
 
     /// `"{" assertion "}"`
     #[cycle(assertion)]
+    #[tactic(auto, unfolding(fsl_grammar::specs::ReadAssertions::read_part_of))]
     pub fn part(&mut self, alloc: Global, room: u32) -> Result<Part, Fault>
         ensures shorter { OnOk result (length self.new.rest.now < length self.old.rest.now) }
         ensures agrees { ReadsAs result self.new.rest.now (read_part room) self.old.rest.now }
@@ -207,6 +214,7 @@ impl<'a> Parser<'a> {
     }
 
     /// `"Init" "(" expression ")"`
+    #[tactic(auto, unfolding(fsl_grammar::specs::ReadAssertions::read_initialised))]
     fn initialised(&mut self, alloc: Global, room: u32) -> Result<Atom, Fault>
         ensures shorter { OnOk result (length self.new.rest.now < length self.old.rest.now) }
         ensures agrees { ReadsAs result self.new.rest.now (read_initialised room) self.old.rest.now }
@@ -226,6 +234,7 @@ impl<'a> Parser<'a> {
     }
 
     /// A word and `"(" expression "," use ")"`
+    #[tactic(auto, unfolding(fsl_grammar::specs::ReadAssertions::read_permission))]
     fn permission(&mut self, alloc: Global, word: TokenKind, room: u32) -> Result<Permission, Fault>
         ensures shorter { OnOk result (length self.new.rest.now < length self.old.rest.now) }
         ensures agrees { ReadsAs result self.new.rest.now (read_permission word room) self.old.rest.now }
@@ -243,6 +252,7 @@ impl<'a> Parser<'a> {
     }
 
     /// `"Rel" "(" expression "," use ")"`
+    #[tactic(auto, unfolding(fsl_grammar::specs::ReadAssertions::read_release_permission))]
     fn release_permission(&mut self, alloc: Global, room: u32) -> Result<Atom, Fault>
         ensures shorter { OnOk result (length self.new.rest.now < length self.old.rest.now) }
         ensures agrees { ReadsAs result self.new.rest.now (read_release_permission room) self.old.rest.now }
@@ -269,6 +279,7 @@ impl<'a> Parser<'a> {
     }
 
     /// `"RmwAcq" "(" expression "," use ")"`
+    #[tactic(auto, unfolding(fsl_grammar::specs::ReadAssertions::read_update_permission))]
     fn update_permission(&mut self, alloc: Global, room: u32) -> Result<Atom, Fault>
         ensures shorter { OnOk result (length self.new.rest.now < length self.old.rest.now) }
         ensures agrees { ReadsAs result self.new.rest.now (read_update_permission room) self.old.rest.now }
@@ -295,6 +306,7 @@ impl<'a> Parser<'a> {
     }
 
     /// `"Acq" "(" expression "," use "," NUMBER "," "{" [ arguments ] "}" ")"`
+    #[tactic(auto, unfolding(fsl_grammar::specs::ReadAssertions::read_acquire_permission))]
     fn acquire_permission(&mut self, alloc: Global, room: u32) -> Result<Atom, Fault>
         ensures shorter { OnOk result (length self.new.rest.now < length self.old.rest.now) }
         ensures agrees { ReadsAs result self.new.rest.now (read_acquire_permission room) self.old.rest.now }
@@ -343,6 +355,7 @@ impl<'a> Parser<'a> {
     }
 
     /// `"Tok" | "Auth"`
+    #[tactic(auto, unfolding(fsl_grammar::specs::ReadAssertions::read_bank_word))]
     fn bank_word(&mut self) -> Result<BankWord, Fault>
         ensures shorter { OnOk result (length self.new.rest.now < length self.old.rest.now) }
         ensures agrees { ReadsAs result self.new.rest.now read_bank_word self.old.rest.now }
@@ -359,6 +372,7 @@ impl<'a> Parser<'a> {
     }
 
     /// `( "Tok" | "Auth" ) "(" NAME "," expression ")"`
+    #[tactic(auto, unfolding(fsl_grammar::specs::ReadAssertions::read_bank_amount))]
     fn bank_amount(&mut self, alloc: Global, room: u32) -> Result<Atom, Fault>
         ensures shorter { OnOk result (length self.new.rest.now < length self.old.rest.now) }
         ensures agrees { ReadsAs result self.new.rest.now (read_bank_amount room) self.old.rest.now }
@@ -380,6 +394,7 @@ impl<'a> Parser<'a> {
     }
 
     /// A use of a predicate, or what begins with an expression. No expression has a name before a `(`.
+    #[tactic(auto, unfolding(fsl_grammar::specs::ReadAssertions::read_named_or_related, fsl_grammar::specs::ReadAssertions::read_related))]
     fn named_or_related(&mut self, alloc: Global, room: u32) -> Result<Atom, Fault>
         ensures shorter { OnOk result (length self.new.rest.now < length self.old.rest.now) }
         ensures agrees { ReadsAs result self.new.rest.now (read_named_or_related room) self.old.rest.now }
@@ -395,6 +410,7 @@ impl<'a> Parser<'a> {
     }
 
     /// `comparison expression | "|->" [ share ] pattern`
+    #[tactic(auto, unfolding(fsl_grammar::specs::ReadAssertions::read_relation))]
     fn relation(&mut self, alloc: Global, room: u32) -> Result<Relation, Fault>
         ensures shorter { OnOk result (length self.new.rest.now < length self.old.rest.now) }
         ensures agrees { ReadsAs result self.new.rest.now (read_relation room) self.old.rest.now }
@@ -407,6 +423,7 @@ impl<'a> Parser<'a> {
     }
 
     /// `"|->" [ share ] pattern`
+    #[tactic(auto, unfolding(fsl_grammar::specs::ReadAssertions::read_points_to))]
     fn points_to(&mut self, alloc: Global, room: u32) -> Result<Relation, Fault>
         ensures shorter { OnOk result (length self.new.rest.now < length self.old.rest.now) }
         ensures agrees { ReadsAs result self.new.rest.now (read_points_to room) self.old.rest.now }
@@ -422,6 +439,7 @@ impl<'a> Parser<'a> {
     }
 
     /// `comparison expression`
+    #[tactic(auto, unfolding(fsl_grammar::specs::ReadAssertions::read_comparison_to))]
     fn comparison_to(&mut self, alloc: Global, room: u32) -> Result<Relation, Fault>
         ensures shorter { OnOk result (length self.new.rest.now < length self.old.rest.now) }
         ensures agrees { ReadsAs result self.new.rest.now (read_comparison_to room) self.old.rest.now }
@@ -432,6 +450,7 @@ impl<'a> Parser<'a> {
     }
 
     /// `[ "[" expression "]" ]`
+    #[tactic(auto, unfolding(fsl_grammar::specs::ReadAssertions::read_optional_share, fsl_grammar::specs::ReadAssertions::read_share))]
     fn optional_share(&mut self, alloc: Global, room: u32) -> Result<Option<Share>, Fault>
         ensures shorter { OnOk result (length self.new.rest.now ≤ length self.old.rest.now) }
         ensures agrees { ReadsAs result self.new.rest.now (read_optional_share room) self.old.rest.now }
@@ -451,6 +470,7 @@ impl<'a> Parser<'a> {
     }
 
     /// `"_" | "?" NAME | expression`
+    #[tactic(auto, unfolding(fsl_grammar::specs::ReadAssertions::read_pattern))]
     fn pattern(&mut self, alloc: Global, room: u32) -> Result<Pattern, Fault>
         ensures shorter { OnOk result (length self.new.rest.now < length self.old.rest.now) }
         ensures agrees { ReadsAs result self.new.rest.now (read_pattern room) self.old.rest.now }

@@ -1,25 +1,23 @@
 //! Invariants, predicates and procedures.
 ghost use Rattle.std.specs.Prelude.{◌<◌, ◌≤◌, length, OnOk};
-ghost use Rattle.fsl_parse.specs.Readers.{ReadsAs, many_of};
-ghost use Rattle.fsl_parse.specs.Heads.{is_next};
-ghost use Rattle.fsl_parse.specs.ReadAssertions.{read_part};
-ghost use Rattle.fsl_parse.specs.ReadStatements.{read_optional_clause};
-ghost use Rattle.fsl_parse.specs.ReadDeclarations.{read_contracted, read_contracted_procedure, read_declaration, read_ensured, read_header, read_invariant, read_next_parameter, read_optional_parameters, read_parameter, read_parameters, read_predicate};
-ghost use Rattle.fsl_token.specs.declared.kind.TokenKind.TheVariants.{Comma, Ensures, OpenBrace, Requires};
+ghost use Rattle.fsl_grammar.specs.Readers.{ReadsAs, many_of};
+ghost use Rattle.fsl_grammar.specs.Heads.{is_next};
+ghost use Rattle.fsl_grammar.specs.ReadAssertions.{read_part};
+ghost use Rattle.fsl_grammar.specs.ReadDeclarations.{read_contracted, read_contracted_procedure, read_declaration, read_ensured, read_header, read_invariant, read_next_parameter, read_optional_parameters, read_parameter, read_parameters, read_predicate};
+ghost use Rattle.fsl_token.specs.declared.kind.TokenKind.TheVariants.{Comma, OpenBrace};
 
-use crate::fault::Fault;
-use crate::groups::{Contracted, Ensured, Header};
 use crate::parser::Parser;
 use fsl_base::List;
+use fsl_grammar::{Contracted, Ensured, Fault, Header};
 use fsl_token::TokenKind;
 use fsl_tree::{
-    Clause, Declaration, Invariant, NextParameter, Parameter, Parameters, Part, Predicate,
-    Procedure,
+    Declaration, Invariant, NextParameter, Parameter, Parameters, Part, Predicate, Procedure,
 };
 use std::alloc::Global;
 
 impl<'a> Parser<'a> {
     /// `invariant | predicate | procedure`
+    #[tactic(auto, unfolding(fsl_grammar::specs::ReadDeclarations::read_declaration))]
     pub fn declaration(&mut self, alloc: Global, room: u32) -> Result<Declaration, Fault>
         ensures shorter { OnOk result (length self.new.rest.now < length self.old.rest.now) }
         ensures agrees { ReadsAs result self.new.rest.now (read_declaration room) self.old.rest.now }
@@ -34,6 +32,7 @@ impl<'a> Parser<'a> {
     }
 
     /// `"inv" NAME "(" [ parameters ] ")" "of" NAME "{" assertion "}" { "{" assertion "}" }`
+    #[tactic(auto, unfolding(fsl_grammar::specs::ReadDeclarations::read_invariant))]
     fn invariant(&mut self, alloc: Global, room: u32) -> Result<Declaration, Fault>
         ensures shorter { OnOk result (length self.new.rest.now < length self.old.rest.now) }
         ensures agrees { ReadsAs result self.new.rest.now (read_invariant room) self.old.rest.now }
@@ -65,7 +64,7 @@ impl<'a> Parser<'a> {
     }
 
     /// `{ "{" assertion "}" }`
-    #[tactic(auto, using(crate::proofs::Turns::going_start, crate::proofs::Turns::going_step))]
+    #[tactic(auto, using(fsl_grammar::proofs::Turns::going_start, fsl_grammar::proofs::Turns::going_step))]
     fn more_parts(&mut self, alloc: Global, room: u32) -> Result<List<Part>, Fault>
         ensures shorter { OnOk result (length self.new.rest.now ≤ length self.old.rest.now) }
         ensures agrees { ReadsAs result self.new.rest.now (many_of (is_next OpenBrace) (read_part room)) self.old.rest.now }
@@ -78,6 +77,7 @@ impl<'a> Parser<'a> {
     }
 
     /// `"pred" NAME "(" [ parameters ] ")" "{" assertion "}"`
+    #[tactic(auto, unfolding(fsl_grammar::specs::ReadDeclarations::read_predicate))]
     fn predicate(&mut self, alloc: Global, room: u32) -> Result<Declaration, Fault>
         ensures shorter { OnOk result (length self.new.rest.now < length self.old.rest.now) }
         ensures agrees { ReadsAs result self.new.rest.now (read_predicate room) self.old.rest.now }
@@ -103,6 +103,7 @@ impl<'a> Parser<'a> {
     }
 
     /// `"proc" NAME "(" [ parameters ] ")" [ "requires" "(" assertion ")" ] [ "ensures" "(" assertion ")" ] block`
+    #[tactic(auto, unfolding(fsl_grammar::specs::ReadDeclarations::read_contracted_procedure))]
     fn procedure(&mut self, alloc: Global, room: u32) -> Result<Declaration, Fault>
         ensures shorter { OnOk result (length self.new.rest.now < length self.old.rest.now) }
         ensures agrees { ReadsAs result self.new.rest.now (read_contracted_procedure room) self.old.rest.now }
@@ -134,11 +135,12 @@ impl<'a> Parser<'a> {
     }
 
     /// `[ "requires" "(" assertion ")" ] [ "ensures" "(" assertion ")" ] block`
+    #[tactic(auto, unfolding(fsl_grammar::specs::ReadDeclarations::read_contracted))]
     fn contracted(&mut self, alloc: Global, room: u32) -> Result<Contracted, Fault>
         ensures shorter { OnOk result (length self.new.rest.now < length self.old.rest.now) }
         ensures agrees { ReadsAs result self.new.rest.now (read_contracted room) self.old.rest.now }
     {
-        let requires_clause = self.requires_clause(alloc, room)?;
+        let requires_clause = self.optional_clause(alloc, TokenKind::Requires, room)?;
         let Ensured {
             ensures_clause,
             body,
@@ -151,11 +153,12 @@ impl<'a> Parser<'a> {
     }
 
     /// `[ "ensures" "(" assertion ")" ] block`
+    #[tactic(auto, unfolding(fsl_grammar::specs::ReadDeclarations::read_ensured))]
     fn ensured(&mut self, alloc: Global, room: u32) -> Result<Ensured, Fault>
         ensures shorter { OnOk result (length self.new.rest.now < length self.old.rest.now) }
         ensures agrees { ReadsAs result self.new.rest.now (read_ensured room) self.old.rest.now }
     {
-        let ensures_clause = self.ensures_clause(alloc, room)?;
+        let ensures_clause = self.optional_clause(alloc, TokenKind::Ensures, room)?;
         let body = self.block(alloc, room)?;
         Ok(Ensured {
             ensures_clause,
@@ -163,31 +166,8 @@ impl<'a> Parser<'a> {
         })
     }
 
-    /// `[ "requires" "(" assertion ")" ]`
-    fn requires_clause(&mut self, alloc: Global, room: u32) -> Result<Option<Clause>, Fault>
-        ensures shorter { OnOk result (length self.new.rest.now ≤ length self.old.rest.now) }
-        ensures agrees { ReadsAs result self.new.rest.now (read_optional_clause Requires room) self.old.rest.now }
-    {
-        if self.is_next(TokenKind::Requires) {
-            Ok(Some(self.clause(alloc, TokenKind::Requires, room)?))
-        } else {
-            Ok(None)
-        }
-    }
-
-    /// `[ "ensures" "(" assertion ")" ]`
-    fn ensures_clause(&mut self, alloc: Global, room: u32) -> Result<Option<Clause>, Fault>
-        ensures shorter { OnOk result (length self.new.rest.now ≤ length self.old.rest.now) }
-        ensures agrees { ReadsAs result self.new.rest.now (read_optional_clause Ensures room) self.old.rest.now }
-    {
-        if self.is_next(TokenKind::Ensures) {
-            Ok(Some(self.clause(alloc, TokenKind::Ensures, room)?))
-        } else {
-            Ok(None)
-        }
-    }
-
     /// A word, `NAME "(" [ parameters ] ")"`
+    #[tactic(auto, unfolding(fsl_grammar::specs::ReadDeclarations::read_header))]
     fn header(&mut self, alloc: Global, word: TokenKind, room: u32) -> Result<Header, Fault>
         ensures shorter { OnOk result (length self.new.rest.now < length self.old.rest.now) }
         ensures agrees { ReadsAs result self.new.rest.now (read_header word room) self.old.rest.now }
@@ -207,6 +187,7 @@ impl<'a> Parser<'a> {
     }
 
     /// `[ parameters ]`, up to a `)`
+    #[tactic(auto, unfolding(fsl_grammar::specs::ReadDeclarations::read_optional_parameters))]
     fn optional_parameters(&mut self, alloc: Global) -> Result<Option<Parameters>, Fault>
         ensures shorter { OnOk result (length self.new.rest.now ≤ length self.old.rest.now) }
         ensures agrees { ReadsAs result self.new.rest.now read_optional_parameters self.old.rest.now }
@@ -219,6 +200,7 @@ impl<'a> Parser<'a> {
     }
 
     /// `parameter { "," parameter }`
+    #[tactic(auto, unfolding(fsl_grammar::specs::ReadDeclarations::read_parameters))]
     fn parameters(&mut self, alloc: Global) -> Result<Parameters, Fault>
         ensures shorter { OnOk result (length self.new.rest.now < length self.old.rest.now) }
         ensures agrees { ReadsAs result self.new.rest.now read_parameters self.old.rest.now }
@@ -229,7 +211,7 @@ impl<'a> Parser<'a> {
     }
 
     /// `{ "," parameter }`
-    #[tactic(auto, using(crate::proofs::Turns::going_start, crate::proofs::Turns::going_step))]
+    #[tactic(auto, using(fsl_grammar::proofs::Turns::going_start, fsl_grammar::proofs::Turns::going_step))]
     fn more_parameters(&mut self, alloc: Global) -> Result<List<NextParameter>, Fault>
         ensures shorter { OnOk result (length self.new.rest.now ≤ length self.old.rest.now) }
         ensures agrees { ReadsAs result self.new.rest.now (many_of (is_next Comma) read_next_parameter) self.old.rest.now }
@@ -242,6 +224,7 @@ impl<'a> Parser<'a> {
     }
 
     /// `"," parameter`
+    #[tactic(auto, unfolding(fsl_grammar::specs::ReadDeclarations::read_next_parameter))]
     fn next_parameter(&mut self) -> Result<NextParameter, Fault>
         ensures shorter { OnOk result (length self.new.rest.now < length self.old.rest.now) }
         ensures agrees { ReadsAs result self.new.rest.now read_next_parameter self.old.rest.now }
@@ -252,6 +235,7 @@ impl<'a> Parser<'a> {
     }
 
     /// `[ "bank" ] NAME`
+    #[tactic(auto, unfolding(fsl_grammar::specs::ReadDeclarations::read_bank_parameter, fsl_grammar::specs::ReadDeclarations::read_parameter, fsl_grammar::specs::ReadDeclarations::read_plain_parameter))]
     fn parameter(&mut self) -> Result<Parameter, Fault>
         ensures shorter { OnOk result (length self.new.rest.now < length self.old.rest.now) }
         ensures agrees { ReadsAs result self.new.rest.now read_parameter self.old.rest.now }

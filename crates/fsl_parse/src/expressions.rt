@@ -1,13 +1,13 @@
 //! Expressions.
 ghost use Rattle.std.specs.Prelude.{◌≡◌, ◌-◌, ◌<◌, ◌≤◌, length, OnOk};
-ghost use Rattle.fsl_parse.specs.Readers.{ReadsAs, many_of};
-ghost use Rattle.fsl_parse.specs.Heads.{is_next};
-ghost use Rattle.fsl_parse.specs.ReadExpressions.{is_sign_next, read_addend, read_expression, read_factor, read_group, read_multiplier, read_negative, read_sign, read_term};
+ghost use Rattle.fsl_grammar.specs.Readers.{ReadsAs, many_of};
+ghost use Rattle.fsl_grammar.specs.Heads.{is_next};
+ghost use Rattle.fsl_grammar.specs.ReadExpressions.{is_sign_next, read_addend, read_expression, read_factor, read_group, read_multiplier, read_negative, read_sign, read_term};
 ghost use Rattle.fsl_token.specs.declared.kind.TokenKind.TheVariants.{Star};
 
-use crate::fault::Fault;
-use crate::parser::{Numeral, Parser};
+use crate::parser::Parser;
 use fsl_base::{Boxed, List};
+use fsl_grammar::{Fault, Numeral};
 use fsl_token::TokenKind;
 use fsl_tree::{Addend, Expression, Factor, Multiplier, Sign, Term};
 use std::alloc::Global;
@@ -21,6 +21,7 @@ impl<'a> Parser<'a> {
     }
 
     /// `"+" | "-"`
+    #[tactic(auto, unfolding(fsl_grammar::specs::ReadExpressions::read_sign))]
     fn sign(&mut self) -> Result<Sign, Fault>
         ensures shorter { OnOk result (length self.new.rest.now < length self.old.rest.now) }
         ensures agrees { ReadsAs result self.new.rest.now read_sign self.old.rest.now }
@@ -38,6 +39,7 @@ impl<'a> Parser<'a> {
 
     /// `term { ( "+" | "-" ) term }`
     #[cycle(expression)]
+    #[tactic(auto, unfolding(fsl_grammar::specs::ReadExpressions::read_expression_of))]
     pub fn expression(&mut self, alloc: Global, room: u32) -> Result<Expression, Fault>
         ensures shorter { OnOk result (length self.new.rest.now < length self.old.rest.now) }
         ensures agrees { ReadsAs result self.new.rest.now (read_expression room) self.old.rest.now }
@@ -49,7 +51,7 @@ impl<'a> Parser<'a> {
 
     /// `{ ( "+" | "-" ) term }`
     #[cycle(expression)]
-    #[tactic(auto, using(crate::proofs::Turns::going_start, crate::proofs::Turns::going_step))]
+    #[tactic(auto, using(fsl_grammar::proofs::Turns::going_start, fsl_grammar::proofs::Turns::going_step))]
     fn addends(&mut self, alloc: Global, room: u32) -> Result<List<Addend>, Fault>
         ensures shorter { OnOk result (length self.new.rest.now ≤ length self.old.rest.now) }
         ensures agrees { ReadsAs result self.new.rest.now (many_of is_sign_next (read_addend (read_factor room))) self.old.rest.now }
@@ -63,6 +65,7 @@ impl<'a> Parser<'a> {
 
     /// `( "+" | "-" ) term`
     #[cycle(expression)]
+    #[tactic(auto, unfolding(fsl_grammar::specs::ReadExpressions::read_addend))]
     fn addend(&mut self, alloc: Global, room: u32) -> Result<Addend, Fault>
         ensures shorter { OnOk result (length self.new.rest.now < length self.old.rest.now) }
         ensures agrees { ReadsAs result self.new.rest.now (read_addend (read_factor room)) self.old.rest.now }
@@ -74,6 +77,7 @@ impl<'a> Parser<'a> {
 
     /// `factor { "*" factor }`
     #[cycle(expression)]
+    #[tactic(auto, unfolding(fsl_grammar::specs::ReadExpressions::read_term))]
     fn term(&mut self, alloc: Global, room: u32) -> Result<Term, Fault>
         ensures shorter { OnOk result (length self.new.rest.now < length self.old.rest.now) }
         ensures agrees { ReadsAs result self.new.rest.now (read_term (read_factor room)) self.old.rest.now }
@@ -85,7 +89,7 @@ impl<'a> Parser<'a> {
 
     /// `{ "*" factor }`
     #[cycle(expression)]
-    #[tactic(auto, using(crate::proofs::Turns::going_start, crate::proofs::Turns::going_step))]
+    #[tactic(auto, using(fsl_grammar::proofs::Turns::going_start, fsl_grammar::proofs::Turns::going_step))]
     fn multipliers(&mut self, alloc: Global, room: u32) -> Result<List<Multiplier>, Fault>
         ensures shorter { OnOk result (length self.new.rest.now ≤ length self.old.rest.now) }
         ensures agrees { ReadsAs result self.new.rest.now (many_of (is_next Star) (read_multiplier (read_factor room))) self.old.rest.now }
@@ -99,6 +103,7 @@ impl<'a> Parser<'a> {
 
     /// `"*" factor`
     #[cycle(expression)]
+    #[tactic(auto, unfolding(fsl_grammar::specs::ReadExpressions::read_multiplier))]
     fn multiplier(&mut self, alloc: Global, room: u32) -> Result<Multiplier, Fault>
         ensures shorter { OnOk result (length self.new.rest.now < length self.old.rest.now) }
         ensures agrees { ReadsAs result self.new.rest.now (read_multiplier (read_factor room)) self.old.rest.now }
@@ -110,6 +115,7 @@ impl<'a> Parser<'a> {
 
     /// `NUMBER | NAME | "result" | "-" factor | "(" expression ")"`
     #[cycle(expression)]
+    #[tactic(auto, unfolding(fsl_grammar::specs::ReadExpressions::read_negative, fsl_grammar::specs::ReadExpressions::read_group))]
     fn factor(&mut self, alloc: Global, room: u32) -> Result<Factor, Fault>
         ensures shorter { OnOk result (length self.new.rest.now < length self.old.rest.now) }
         ensures agrees { ReadsAs result self.new.rest.now (read_factor room) self.old.rest.now }
@@ -134,6 +140,7 @@ impl<'a> Parser<'a> {
 
     /// `"-" factor`
     #[cycle(expression)]
+    #[tactic(auto, unfolding(fsl_grammar::specs::ReadExpressions::read_negative))]
     fn negative(&mut self, alloc: Global, room: u32) -> Result<Factor, Fault>
         ensures shorter { OnOk result (length self.new.rest.now < length self.old.rest.now) }
         ensures agrees { ReadsAs result self.new.rest.now (read_negative room (read_factor (room - 1))) self.old.rest.now }
@@ -146,6 +153,7 @@ impl<'a> Parser<'a> {
 
     /// `"(" expression ")"`
     #[cycle(expression)]
+    #[tactic(auto, unfolding(fsl_grammar::specs::ReadExpressions::read_group))]
     fn group(&mut self, alloc: Global, room: u32) -> Result<Factor, Fault>
         ensures shorter { OnOk result (length self.new.rest.now < length self.old.rest.now) }
         ensures agrees { ReadsAs result self.new.rest.now (read_group room (read_factor (room - 1))) self.old.rest.now }

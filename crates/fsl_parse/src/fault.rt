@@ -1,9 +1,8 @@
 //! Why tokens are no file.
 ghost use Rattle.std.specs.Prelude.{◌≡◌};
-ghost use Rattle.fsl_parse.specs.declared.fault.Fault.TheVariants.{NoMemory};
 
 use fsl_base::Span;
-use std::alloc::{AllocError, AllocFailed};
+use std::alloc::AllocFailed;
 use thiserror::Error;
 
 /// Why tokens are no file.
@@ -18,20 +17,4 @@ pub enum ParseFault {
     /// There was no memory for the tree.
     #[error("out of memory")]
     NoMemory,
-}
-
-/// Why the reading of a part stopped; the token at fault is the first that is left.
-#[derive(Clone, Copy, Debug, PartialEq, Eq)]
-pub enum Fault {
-    Unexpected,
-    Deep,
-    NoMemory,
-}
-
-impl From<AllocError> for Fault {
-    ghost from_gives = { λ _ fault. fault ≡ NoMemory };
-
-    fn from(_error: AllocError) -> Fault {
-        Fault::NoMemory
-    }
 }

@@ -1,19 +1,20 @@
 //! A whole file, and the place of a fault in it.
 ghost use Rattle.std.specs.Prelude.{◌≡◌};
-ghost use Rattle.fsl_parse.specs.Readers.{ReadsAs, many_of};
+ghost use Rattle.fsl_grammar.specs.Readers.{ReadsAs, many_of};
 ghost use Rattle.fsl_parse.specs.Refusal.{placed};
-ghost use Rattle.fsl_parse.specs.Heads.{is_more};
-ghost use Rattle.fsl_parse.specs.ReadDeclarations.{read_declaration, read_file};
+ghost use Rattle.fsl_grammar.specs.Heads.{is_more};
+ghost use Rattle.fsl_grammar.specs.ReadDeclarations.{read_declaration, read_file};
 
-use crate::fault::{Fault, ParseFault};
+use crate::fault::ParseFault;
 use crate::parser::Parser;
 use fsl_base::{List, Span};
+use fsl_grammar::Fault;
 use fsl_tree::{Declaration, File};
 use std::alloc::Global;
 
 impl<'a> Parser<'a> {
     /// `{ declaration }`, up to the end of the tokens
-    #[tactic(auto, unfolding(crate::specs::ReadDeclarations::read_file))]
+    #[tactic(auto, unfolding(fsl_grammar::specs::ReadDeclarations::read_file))]
     pub fn file(&mut self, alloc: Global, room: u32) -> Result<File, Fault>
         ensures agrees { ReadsAs result self.new.rest.now (read_file room) self.old.rest.now }
     {
@@ -22,7 +23,7 @@ impl<'a> Parser<'a> {
     }
 
     /// `{ declaration }`, up to the end of the tokens
-    #[tactic(auto, using(crate::proofs::Turns::going_start, crate::proofs::Turns::going_step))]
+    #[tactic(auto, using(fsl_grammar::proofs::Turns::going_start, fsl_grammar::proofs::Turns::going_step))]
     fn declarations(&mut self, alloc: Global, room: u32) -> Result<List<Declaration>, Fault>
         ensures agrees { ReadsAs result self.new.rest.now (many_of is_more (read_declaration room)) self.old.rest.now }
     {

@@ -16,7 +16,6 @@ mod declarations;
 mod expressions;
 mod fault;
 mod file;
-mod groups;
 mod parser;
 mod right_sides;
 mod statements;

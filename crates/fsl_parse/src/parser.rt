@@ -1,23 +1,16 @@
 //! The tokens that are left, and how one is taken.
 ghost use Rattle.std.specs.Prelude.{◌≡◌, ◌<◌, OnOk, length};
-ghost use Rattle.fsl_parse.specs.Heads.{is_fixed, is_more, is_next, is_number_next, is_use_next};
-ghost use Rattle.fsl_parse.specs.Readers.{ReadsAs, take, open_at, number};
+ghost use Rattle.fsl_grammar.specs.Heads.{is_fixed, is_more, is_next, is_number_next, is_use_next};
+ghost use Rattle.fsl_grammar.specs.Readers.{ReadsAs, take, open_at, number};
 
-use crate::fault::Fault;
 use fsl_base::Span;
+use fsl_grammar::{Fault, Numeral};
 use fsl_token::{Token, TokenKind};
 
 /// A reader of tokens. After a fault the token at fault is the first that is left.
 #[derive(Drop)]
 pub struct Parser<'a> {
     pub rest: &'a [Token],
-}
-
-/// A number, with its value.
-#[derive(Clone, Copy)]
-pub struct Numeral {
-    pub place: Span,
-    pub value: u64,
 }
 
 /// Whether a token is of a kind that has no value.

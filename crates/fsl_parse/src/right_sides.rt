@@ -1,12 +1,11 @@
 //! What an assignment gives its variable, modes and token steps.
 ghost use Rattle.std.specs.Prelude.{◌≡◌, ◌<◌, ◌≤◌, length, OnOk};
-ghost use Rattle.fsl_parse.specs.Readers.{ReadsAs, many_of};
-ghost use Rattle.fsl_parse.specs.ReadStatements.{is_step_next, read_allocation, read_compare_and_swap, read_load, read_mode, read_optional_with, read_right_side, read_shared_cell, read_step, read_step_line, read_step_word, read_update, read_update_word, read_with};
+ghost use Rattle.fsl_grammar.specs.Readers.{ReadsAs, many_of};
+ghost use Rattle.fsl_grammar.specs.ReadStatements.{is_step_next, read_allocation, read_compare_and_swap, read_load, read_mode, read_optional_with, read_right_side, read_shared_cell, read_step, read_step_line, read_step_word, read_update, read_update_word, read_with};
 
-use crate::fault::Fault;
-use crate::groups::{Pair, Triple};
 use crate::parser::Parser;
 use fsl_base::List;
+use fsl_grammar::{Fault, Pair, Triple};
 use fsl_token::TokenKind;
 use fsl_tree::{
     Allocation, Mode, RightSide, SharedCell, Step, StepLine, StepWord, UpdateWord, With,
@@ -15,6 +14,7 @@ use std::alloc::Global;
 
 impl<'a> Parser<'a> {
     /// What stands to the right of an assignment's `=`.
+    #[tactic(auto, unfolding(fsl_grammar::specs::ReadStatements::read_allocate, fsl_grammar::specs::ReadStatements::read_called, fsl_grammar::specs::ReadStatements::read_right_side))]
     pub fn right_side(&mut self, alloc: Global, room: u32) -> Result<RightSide, Fault>
         ensures shorter { OnOk result (length self.new.rest.now < length self.old.rest.now) }
         ensures agrees { ReadsAs result self.new.rest.now (read_right_side room) self.old.rest.now }
@@ -41,6 +41,7 @@ impl<'a> Parser<'a> {
     }
 
     /// `"na" | ( "acq" | "rmw" ) use`
+    #[tactic(auto, unfolding(fsl_grammar::specs::ReadStatements::read_allocation, fsl_grammar::specs::ReadStatements::read_shared))]
     fn allocation(&mut self, alloc: Global, room: u32) -> Result<Allocation, Fault>
         ensures shorter { OnOk result (length self.new.rest.now < length self.old.rest.now) }
         ensures agrees { ReadsAs result self.new.rest.now (read_allocation room) self.old.rest.now }
@@ -57,6 +58,7 @@ impl<'a> Parser<'a> {
     }
 
     /// `"acq" | "rmw"`
+    #[tactic(auto, unfolding(fsl_grammar::specs::ReadStatements::read_shared_cell))]
     fn shared_cell(&mut self) -> Result<SharedCell, Fault>
         ensures shorter { OnOk result (length self.new.rest.now < length self.old.rest.now) }
         ensures agrees { ReadsAs result self.new.rest.now read_shared_cell self.old.rest.now }
@@ -73,6 +75,7 @@ impl<'a> Parser<'a> {
     }
 
     /// `"na" | "rlx" | "acq" | "rel" | "acqrel"`
+    #[tactic(auto, unfolding(fsl_grammar::specs::ReadStatements::read_mode))]
     pub fn mode(&mut self) -> Result<Mode, Fault>
         ensures shorter { OnOk result (length self.new.rest.now < length self.old.rest.now) }
         ensures agrees { ReadsAs result self.new.rest.now read_mode self.old.rest.now }
@@ -101,6 +104,7 @@ impl<'a> Parser<'a> {
     }
 
     /// `"load" mode "(" expression ")"`
+    #[tactic(auto, unfolding(fsl_grammar::specs::ReadStatements::read_load))]
     fn load(&mut self, alloc: Global, room: u32) -> Result<RightSide, Fault>
         ensures shorter { OnOk result (length self.new.rest.now < length self.old.rest.now) }
         ensures agrees { ReadsAs result self.new.rest.now (read_load room) self.old.rest.now }
@@ -120,6 +124,7 @@ impl<'a> Parser<'a> {
     }
 
     /// `"cas" mode mode "(" expression "," expression "," expression ")" [ with ]`
+    #[tactic(auto, unfolding(fsl_grammar::specs::ReadStatements::read_compare_and_swap))]
     fn compare_and_swap(&mut self, alloc: Global, room: u32) -> Result<RightSide, Fault>
         ensures shorter { OnOk result (length self.new.rest.now < length self.old.rest.now) }
         ensures agrees { ReadsAs result self.new.rest.now (read_compare_and_swap room) self.old.rest.now }
@@ -151,6 +156,7 @@ impl<'a> Parser<'a> {
     }
 
     /// `"fetch_add" | "exchange"`
+    #[tactic(auto, unfolding(fsl_grammar::specs::ReadStatements::read_update_word))]
     fn update_word(&mut self) -> Result<UpdateWord, Fault>
         ensures shorter { OnOk result (length self.new.rest.now < length self.old.rest.now) }
         ensures agrees { ReadsAs result self.new.rest.now read_update_word self.old.rest.now }
@@ -167,6 +173,7 @@ impl<'a> Parser<'a> {
     }
 
     /// `( "fetch_add" | "exchange" ) mode "(" expression "," expression ")" [ with ]`
+    #[tactic(auto, unfolding(fsl_grammar::specs::ReadStatements::read_update))]
     fn update(&mut self, alloc: Global, room: u32) -> Result<RightSide, Fault>
         ensures shorter { OnOk result (length self.new.rest.now < length self.old.rest.now) }
         ensures agrees { ReadsAs result self.new.rest.now (read_update room) self.old.rest.now }
@@ -193,6 +200,7 @@ impl<'a> Parser<'a> {
     }
 
     /// `[ with ]`
+    #[tactic(auto, unfolding(fsl_grammar::specs::ReadStatements::read_optional_with))]
     fn optional_with(&mut self, alloc: Global, room: u32) -> Result<Option<With>, Fault>
         ensures shorter { OnOk result (length self.new.rest.now ≤ length self.old.rest.now) }
         ensures agrees { ReadsAs result self.new.rest.now (read_optional_with room) self.old.rest.now }
@@ -205,6 +213,7 @@ impl<'a> Parser<'a> {
     }
 
     /// `"with" "{" { step ";" } "}"`
+    #[tactic(auto, unfolding(fsl_grammar::specs::ReadStatements::read_with))]
     fn with(&mut self, alloc: Global, room: u32) -> Result<With, Fault>
         ensures shorter { OnOk result (length self.new.rest.now < length self.old.rest.now) }
         ensures agrees { ReadsAs result self.new.rest.now (read_with room) self.old.rest.now }
@@ -222,7 +231,7 @@ impl<'a> Parser<'a> {
     }
 
     /// `{ step ";" }`
-    #[tactic(auto, using(crate::proofs::Turns::going_start, crate::proofs::Turns::going_step))]
+    #[tactic(auto, using(fsl_grammar::proofs::Turns::going_start, fsl_grammar::proofs::Turns::going_step))]
     fn step_lines(&mut self, alloc: Global, room: u32) -> Result<List<StepLine>, Fault>
         ensures shorter { OnOk result (length self.new.rest.now ≤ length self.old.rest.now) }
         ensures agrees { ReadsAs result self.new.rest.now (many_of is_step_next (read_step_line room)) self.old.rest.now }
@@ -242,6 +251,7 @@ impl<'a> Parser<'a> {
     }
 
     /// `step ";"`
+    #[tactic(auto, unfolding(fsl_grammar::specs::ReadStatements::read_step_line))]
     fn step_line(&mut self, alloc: Global, room: u32) -> Result<StepLine, Fault>
         ensures shorter { OnOk result (length self.new.rest.now < length self.old.rest.now) }
         ensures agrees { ReadsAs result self.new.rest.now (read_step_line room) self.old.rest.now }
@@ -252,6 +262,7 @@ impl<'a> Parser<'a> {
     }
 
     /// `"mint" | "burn"`
+    #[tactic(auto, unfolding(fsl_grammar::specs::ReadStatements::read_step_word))]
     fn step_word(&mut self) -> Result<StepWord, Fault>
         ensures shorter { OnOk result (length self.new.rest.now < length self.old.rest.now) }
         ensures agrees { ReadsAs result self.new.rest.now read_step_word self.old.rest.now }
@@ -268,6 +279,7 @@ impl<'a> Parser<'a> {
     }
 
     /// `( "mint" | "burn" ) "(" NAME "," expression ")"`
+    #[tactic(auto, unfolding(fsl_grammar::specs::ReadStatements::read_step))]
     pub fn step(&mut self, alloc: Global, room: u32) -> Result<Step, Fault>
         ensures shorter { OnOk result (length self.new.rest.now < length self.old.rest.now) }
         ensures agrees { ReadsAs result self.new.rest.now (read_step room) self.old.rest.now }

@@ -1,14 +1,13 @@
 //! Statements and blocks.
 ghost use Rattle.std.specs.Prelude.{◌≡◌, ◌-◌, ◌<◌, ◌≤◌, length, OnOk};
-ghost use Rattle.fsl_parse.specs.Readers.{ReadsAs, many_of};
-ghost use Rattle.fsl_parse.specs.Heads.{is_next};
-ghost use Rattle.fsl_parse.specs.ReadStatements.{goes_on, read_assert, read_assign, read_bank, read_block, read_call, read_fence, read_fence_kind, read_free, read_guarded, read_guarded_while, read_if, read_let, read_optional_clause, read_optional_expression, read_optional_otherwise, read_parallel, read_parallel_call, read_print, read_release, read_release_word, read_return, read_simple_statement, read_statement, read_step_statement, read_store};
-ghost use Rattle.fsl_token.specs.declared.kind.TokenKind.TheVariants.{Inv, Name};
+ghost use Rattle.fsl_grammar.specs.Readers.{ReadsAs, many_of};
+ghost use Rattle.fsl_grammar.specs.Heads.{is_next};
+ghost use Rattle.fsl_grammar.specs.ReadStatements.{goes_on, read_assert, read_assign, read_bank, read_block, read_call, read_fence, read_fence_kind, read_free, read_guarded, read_guarded_while, read_if, read_let, read_optional_clause, read_optional_expression, read_optional_otherwise, read_parallel, read_parallel_call, read_print, read_release, read_release_word, read_return, read_simple_statement, read_statement, read_step_statement, read_store};
+ghost use Rattle.fsl_token.specs.declared.kind.TokenKind.TheVariants.{Name};
 
-use crate::fault::Fault;
-use crate::groups::{Enclosed, Guarded, Pair, Test};
 use crate::parser::Parser;
 use fsl_base::List;
+use fsl_grammar::{Enclosed, Fault, Guarded, Pair, Test};
 use fsl_token::TokenKind;
 use fsl_tree::{
     Block, Clause, Expression, FenceKind, Otherwise, ParallelCall, ReleaseWord, Statement,
@@ -18,6 +17,7 @@ use std::alloc::Global;
 impl<'a> Parser<'a> {
     /// `"{" { statement } "}"`
     #[cycle(statement)]
+    #[tactic(auto, unfolding(fsl_grammar::specs::ReadStatements::read_block_of))]
     pub fn block(&mut self, alloc: Global, room: u32) -> Result<Block, Fault>
         ensures shorter { OnOk result (length self.new.rest.now < length self.old.rest.now) }
         ensures agrees { ReadsAs result self.new.rest.now (read_block room) self.old.rest.now }
@@ -41,7 +41,7 @@ impl<'a> Parser<'a> {
 
     /// `{ statement }`, up to a `}`
     #[cycle(statement)]
-    #[tactic(auto, using(crate::proofs::Turns::going_start, crate::proofs::Turns::going_step))]
+    #[tactic(auto, using(fsl_grammar::proofs::Turns::going_start, fsl_grammar::proofs::Turns::going_step))]
     fn statements(&mut self, alloc: Global, room: u32) -> Result<List<Statement>, Fault>
         ensures shorter { OnOk result (length self.new.rest.now ≤ length self.old.rest.now) }
         ensures agrees { ReadsAs result self.new.rest.now (many_of goes_on (read_statement room)) self.old.rest.now }
@@ -70,6 +70,7 @@ impl<'a> Parser<'a> {
 
     /// `"if" "(" condition ")" block [ "else" block ]`
     #[cycle(statement)]
+    #[tactic(auto, unfolding(fsl_grammar::specs::ReadStatements::read_if))]
     fn if_statement(&mut self, alloc: Global, room: u32) -> Result<Statement, Fault>
         ensures shorter { OnOk result (length self.new.rest.now < length self.old.rest.now) }
         ensures agrees { ReadsAs result self.new.rest.now (read_if room (read_statement (room - 1))) self.old.rest.now }
@@ -94,6 +95,7 @@ impl<'a> Parser<'a> {
 
     /// `[ "else" block ]`
     #[cycle(statement)]
+    #[tactic(auto, unfolding(fsl_grammar::specs::ReadStatements::read_optional_otherwise, fsl_grammar::specs::ReadStatements::read_otherwise))]
     fn optional_otherwise(&mut self, alloc: Global, room: u32) -> Result<Option<Otherwise>, Fault>
         ensures shorter { OnOk result (length self.new.rest.now ≤ length self.old.rest.now) }
         ensures agrees { ReadsAs result self.new.rest.now (read_optional_otherwise room (read_statement (room - 1))) self.old.rest.now }
@@ -109,6 +111,7 @@ impl<'a> Parser<'a> {
 
     /// `"while" "(" condition ")" [ "inv" "(" assertion ")" ] block`
     #[cycle(statement)]
+    #[tactic(auto, unfolding(fsl_grammar::specs::ReadStatements::read_guarded_while))]
     fn while_statement(&mut self, alloc: Global, room: u32) -> Result<Statement, Fault>
         ensures shorter { OnOk result (length self.new.rest.now < length self.old.rest.now) }
         ensures agrees { ReadsAs result self.new.rest.now (read_guarded_while room (read_statement (room - 1))) self.old.rest.now }
@@ -132,28 +135,36 @@ impl<'a> Parser<'a> {
 
     /// `[ "inv" "(" assertion ")" ] block`
     #[cycle(statement)]
+    #[tactic(auto, unfolding(fsl_grammar::specs::ReadStatements::read_guarded))]
     fn guarded(&mut self, alloc: Global, room: u32) -> Result<Guarded, Fault>
         ensures shorter { OnOk result (length self.new.rest.now < length self.old.rest.now) }
         ensures agrees { ReadsAs result self.new.rest.now (read_guarded room (read_statement (room - 1))) self.old.rest.now }
     {
-        let invariant = self.optional_invariant(alloc, room)?;
+        let invariant = self.optional_clause(alloc, TokenKind::Inv, room)?;
         let body = self.block(alloc, room)?;
         Ok(Guarded { invariant, body })
     }
 
-    /// `[ "inv" "(" assertion ")" ]`
-    fn optional_invariant(&mut self, alloc: Global, room: u32) -> Result<Option<Clause>, Fault>
+    /// `[ word "(" assertion ")" ]`
+    #[tactic(auto, unfolding(fsl_grammar::specs::ReadStatements::read_optional_clause))]
+    pub fn optional_clause(
+        &mut self,
+        alloc: Global,
+        word: TokenKind,
+        room: u32,
+    ) -> Result<Option<Clause>, Fault>
         ensures shorter { OnOk result (length self.new.rest.now ≤ length self.old.rest.now) }
-        ensures agrees { ReadsAs result self.new.rest.now (read_optional_clause Inv room) self.old.rest.now }
+        ensures agrees { ReadsAs result self.new.rest.now (read_optional_clause word room) self.old.rest.now }
     {
-        if self.is_next(TokenKind::Inv) {
-            Ok(Some(self.clause(alloc, TokenKind::Inv, room)?))
+        if self.is_next(word) {
+            Ok(Some(self.clause(alloc, word, room)?))
         } else {
             Ok(None)
         }
     }
 
     /// A statement without a block.
+    #[tactic(auto, unfolding(fsl_grammar::specs::ReadStatements::read_simple_statement))]
     fn simple_statement(&mut self, alloc: Global, room: u32) -> Result<Statement, Fault>
         ensures shorter { OnOk result (length self.new.rest.now < length self.old.rest.now) }
         ensures agrees { ReadsAs result self.new.rest.now (read_simple_statement room) self.old.rest.now }
@@ -186,6 +197,7 @@ impl<'a> Parser<'a> {
     }
 
     /// `"let" NAME "=" right_side ";"`
+    #[tactic(auto, unfolding(fsl_grammar::specs::ReadStatements::read_let))]
     fn let_statement(&mut self, alloc: Global, room: u32) -> Result<Statement, Fault>
         ensures shorter { OnOk result (length self.new.rest.now < length self.old.rest.now) }
         ensures agrees { ReadsAs result self.new.rest.now (read_let room) self.old.rest.now }
@@ -205,6 +217,7 @@ impl<'a> Parser<'a> {
     }
 
     /// `NAME "=" right_side ";"`
+    #[tactic(auto, unfolding(fsl_grammar::specs::ReadStatements::read_assign))]
     fn assign(&mut self, alloc: Global, room: u32) -> Result<Statement, Fault>
         ensures shorter { OnOk result (length self.new.rest.now < length self.old.rest.now) }
         ensures agrees { ReadsAs result self.new.rest.now (read_assign room) self.old.rest.now }
@@ -222,6 +235,7 @@ impl<'a> Parser<'a> {
     }
 
     /// `"store" mode "(" expression "," expression ")" ";"`
+    #[tactic(auto, unfolding(fsl_grammar::specs::ReadStatements::read_store))]
     fn store(&mut self, alloc: Global, room: u32) -> Result<Statement, Fault>
         ensures shorter { OnOk result (length self.new.rest.now < length self.old.rest.now) }
         ensures agrees { ReadsAs result self.new.rest.now (read_store room) self.old.rest.now }
@@ -248,6 +262,7 @@ impl<'a> Parser<'a> {
     }
 
     /// `"call" use ";"`
+    #[tactic(auto, unfolding(fsl_grammar::specs::ReadStatements::read_call))]
     fn call(&mut self, alloc: Global, room: u32) -> Result<Statement, Fault>
         ensures shorter { OnOk result (length self.new.rest.now < length self.old.rest.now) }
         ensures agrees { ReadsAs result self.new.rest.now (read_call room) self.old.rest.now }
@@ -263,6 +278,7 @@ impl<'a> Parser<'a> {
     }
 
     /// `"par" "{" { use ";" } "}"`
+    #[tactic(auto, unfolding(fsl_grammar::specs::ReadStatements::read_parallel))]
     fn parallel(&mut self, alloc: Global, room: u32) -> Result<Statement, Fault>
         ensures shorter { OnOk result (length self.new.rest.now < length self.old.rest.now) }
         ensures agrees { ReadsAs result self.new.rest.now (read_parallel room) self.old.rest.now }
@@ -280,7 +296,7 @@ impl<'a> Parser<'a> {
     }
 
     /// `{ use ";" }`
-    #[tactic(auto, using(crate::proofs::Turns::going_start, crate::proofs::Turns::going_step))]
+    #[tactic(auto, using(fsl_grammar::proofs::Turns::going_start, fsl_grammar::proofs::Turns::going_step))]
     fn parallel_calls(&mut self, alloc: Global, room: u32) -> Result<List<ParallelCall>, Fault>
         ensures shorter { OnOk result (length self.new.rest.now ≤ length self.old.rest.now) }
         ensures agrees { ReadsAs result self.new.rest.now (many_of (is_next Name) (read_parallel_call room)) self.old.rest.now }
@@ -293,6 +309,7 @@ impl<'a> Parser<'a> {
     }
 
     /// `use ";"`
+    #[tactic(auto, unfolding(fsl_grammar::specs::ReadStatements::read_parallel_call))]
     fn parallel_call(&mut self, alloc: Global, room: u32) -> Result<ParallelCall, Fault>
         ensures shorter { OnOk result (length self.new.rest.now < length self.old.rest.now) }
         ensures agrees { ReadsAs result self.new.rest.now (read_parallel_call room) self.old.rest.now }
@@ -303,6 +320,7 @@ impl<'a> Parser<'a> {
     }
 
     /// `"fence" fence_kind ";"`
+    #[tactic(auto, unfolding(fsl_grammar::specs::ReadStatements::read_fence))]
     fn fence(&mut self, alloc: Global, room: u32) -> Result<Statement, Fault>
         ensures shorter { OnOk result (length self.new.rest.now < length self.old.rest.now) }
         ensures agrees { ReadsAs result self.new.rest.now (read_fence room) self.old.rest.now }
@@ -318,6 +336,7 @@ impl<'a> Parser<'a> {
     }
 
     /// `"acq" | ( "rel" | "acqrel" ) "(" assertion ")"`
+    #[tactic(auto, unfolding(fsl_grammar::specs::ReadStatements::read_fence_kind))]
     fn fence_kind(&mut self, alloc: Global, room: u32) -> Result<FenceKind, Fault>
         ensures shorter { OnOk result (length self.new.rest.now < length self.old.rest.now) }
         ensures agrees { ReadsAs result self.new.rest.now (read_fence_kind room) self.old.rest.now }
@@ -332,6 +351,7 @@ impl<'a> Parser<'a> {
     }
 
     /// `( "rel" | "acqrel" ) "(" assertion ")"`
+    #[tactic(auto, unfolding(fsl_grammar::specs::ReadStatements::read_release))]
     fn release_fence(&mut self, alloc: Global, room: u32) -> Result<FenceKind, Fault>
         ensures shorter { OnOk result (length self.new.rest.now < length self.old.rest.now) }
         ensures agrees { ReadsAs result self.new.rest.now (read_release room) self.old.rest.now }
@@ -349,6 +369,7 @@ impl<'a> Parser<'a> {
     }
 
     /// `"rel" | "acqrel"`
+    #[tactic(auto, unfolding(fsl_grammar::specs::ReadStatements::read_release_word))]
     fn release_word(&mut self) -> Result<ReleaseWord, Fault>
         ensures shorter { OnOk result (length self.new.rest.now < length self.old.rest.now) }
         ensures agrees { ReadsAs result self.new.rest.now read_release_word self.old.rest.now }
@@ -365,6 +386,7 @@ impl<'a> Parser<'a> {
     }
 
     /// `"assert" "(" condition ")" ";"`
+    #[tactic(auto, unfolding(fsl_grammar::specs::ReadStatements::read_assert))]
     fn assert_statement(&mut self, alloc: Global, room: u32) -> Result<Statement, Fault>
         ensures shorter { OnOk result (length self.new.rest.now < length self.old.rest.now) }
         ensures agrees { ReadsAs result self.new.rest.now (read_assert room) self.old.rest.now }
@@ -386,6 +408,7 @@ impl<'a> Parser<'a> {
     }
 
     /// `"print" "(" expression ")" ";"`
+    #[tactic(auto, unfolding(fsl_grammar::specs::ReadStatements::read_print))]
     fn print_statement(&mut self, alloc: Global, room: u32) -> Result<Statement, Fault>
         ensures shorter { OnOk result (length self.new.rest.now < length self.old.rest.now) }
         ensures agrees { ReadsAs result self.new.rest.now (read_print room) self.old.rest.now }
@@ -407,6 +430,7 @@ impl<'a> Parser<'a> {
     }
 
     /// `"free" "(" expression ")" ";"`
+    #[tactic(auto, unfolding(fsl_grammar::specs::ReadStatements::read_free))]
     fn free_statement(&mut self, alloc: Global, room: u32) -> Result<Statement, Fault>
         ensures shorter { OnOk result (length self.new.rest.now < length self.old.rest.now) }
         ensures agrees { ReadsAs result self.new.rest.now (read_free room) self.old.rest.now }
@@ -428,6 +452,7 @@ impl<'a> Parser<'a> {
     }
 
     /// `"return" [ expression ] ";"`
+    #[tactic(auto, unfolding(fsl_grammar::specs::ReadStatements::read_return))]
     fn return_statement(&mut self, alloc: Global, room: u32) -> Result<Statement, Fault>
         ensures shorter { OnOk result (length self.new.rest.now < length self.old.rest.now) }
         ensures agrees { ReadsAs result self.new.rest.now (read_return room) self.old.rest.now }
@@ -443,6 +468,7 @@ impl<'a> Parser<'a> {
     }
 
     /// `[ expression ]`, up to a `;`
+    #[tactic(auto, unfolding(fsl_grammar::specs::ReadStatements::read_optional_expression))]
     fn optional_expression(&mut self, alloc: Global, room: u32) -> Result<Option<Expression>, Fault>
         ensures shorter { OnOk result (length self.new.rest.now ≤ length self.old.rest.now) }
         ensures agrees { ReadsAs result self.new.rest.now (read_optional_expression room) self.old.rest.now }
@@ -455,6 +481,7 @@ impl<'a> Parser<'a> {
     }
 
     /// `"bank" NAME ";"`
+    #[tactic(auto, unfolding(fsl_grammar::specs::ReadStatements::read_bank))]
     fn bank_statement(&mut self) -> Result<Statement, Fault>
         ensures shorter { OnOk result (length self.new.rest.now < length self.old.rest.now) }
         ensures agrees { ReadsAs result self.new.rest.now read_bank self.old.rest.now }
@@ -470,6 +497,7 @@ impl<'a> Parser<'a> {
     }
 
     /// `step ";"`
+    #[tactic(auto, unfolding(fsl_grammar::specs::ReadStatements::read_step_statement))]
     fn step_statement(&mut self, alloc: Global, room: u32) -> Result<Statement, Fault>
         ensures shorter { OnOk result (length self.new.rest.now < length self.old.rest.now) }
         ensures agrees { ReadsAs result self.new.rest.now (read_step_statement room) self.old.rest.now }

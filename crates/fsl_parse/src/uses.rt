@@ -1,21 +1,21 @@
 //! Conditions, arguments, and the groups of tokens around expressions.
 ghost use Rattle.std.specs.Prelude.{◌<◌, ◌≤◌, length, OnOk};
-ghost use Rattle.fsl_parse.specs.Readers.{ReadsAs, many_of};
-ghost use Rattle.fsl_parse.specs.Heads.{is_next};
-ghost use Rattle.fsl_parse.specs.ReadExpressions.{read_arguments, read_comparison, read_condition, read_next_argument, read_optional_arguments, read_usage};
-ghost use Rattle.fsl_parse.specs.ReadGroups.{read_enclosed, read_excluded_set, read_held, read_pair, read_test, read_triple};
+ghost use Rattle.fsl_grammar.specs.Readers.{ReadsAs, many_of};
+ghost use Rattle.fsl_grammar.specs.Heads.{is_next};
+ghost use Rattle.fsl_grammar.specs.ReadExpressions.{read_arguments, read_comparison, read_condition, read_next_argument, read_optional_arguments, read_usage};
+ghost use Rattle.fsl_grammar.specs.ReadGroups.{read_enclosed, read_excluded_set, read_held, read_pair, read_test, read_triple};
 ghost use Rattle.fsl_token.specs.declared.kind.TokenKind.TheVariants.{Comma};
 
-use crate::fault::Fault;
-use crate::groups::{Enclosed, ExcludedSet, Held, Pair, Test, Triple};
 use crate::parser::Parser;
 use fsl_base::List;
+use fsl_grammar::{Enclosed, ExcludedSet, Fault, Held, Pair, Test, Triple};
 use fsl_token::TokenKind;
 use fsl_tree::{Arguments, Comparison, Condition, NextArgument, Use};
 use std::alloc::Global;
 
 impl<'a> Parser<'a> {
     /// `"==" | "!=" | "<" | "<=" | ">" | ">="`
+    #[tactic(auto, unfolding(fsl_grammar::specs::ReadExpressions::read_comparison))]
     pub fn comparison(&mut self) -> Result<Comparison, Fault>
         ensures shorter { OnOk result (length self.new.rest.now < length self.old.rest.now) }
         ensures agrees { ReadsAs result self.new.rest.now read_comparison self.old.rest.now }
@@ -48,6 +48,7 @@ impl<'a> Parser<'a> {
     }
 
     /// `"true" | "false" | expression comparison expression`
+    #[tactic(auto, unfolding(fsl_grammar::specs::ReadExpressions::read_compared, fsl_grammar::specs::ReadExpressions::read_condition))]
     pub fn condition(&mut self, alloc: Global, room: u32) -> Result<Condition, Fault>
         ensures shorter { OnOk result (length self.new.rest.now < length self.old.rest.now) }
         ensures agrees { ReadsAs result self.new.rest.now (read_condition room) self.old.rest.now }
@@ -73,6 +74,7 @@ impl<'a> Parser<'a> {
     }
 
     /// `"," expression`
+    #[tactic(auto, unfolding(fsl_grammar::specs::ReadExpressions::read_next_argument))]
     pub fn next_argument(&mut self, alloc: Global, room: u32) -> Result<NextArgument, Fault>
         ensures shorter { OnOk result (length self.new.rest.now < length self.old.rest.now) }
         ensures agrees { ReadsAs result self.new.rest.now (read_next_argument room) self.old.rest.now }
@@ -83,6 +85,7 @@ impl<'a> Parser<'a> {
     }
 
     /// `expression { "," expression }`
+    #[tactic(auto, unfolding(fsl_grammar::specs::ReadExpressions::read_arguments))]
     fn arguments(&mut self, alloc: Global, room: u32) -> Result<Arguments, Fault>
         ensures shorter { OnOk result (length self.new.rest.now < length self.old.rest.now) }
         ensures agrees { ReadsAs result self.new.rest.now (read_arguments room) self.old.rest.now }
@@ -93,7 +96,7 @@ impl<'a> Parser<'a> {
     }
 
     /// `{ "," expression }`
-    #[tactic(auto, using(crate::proofs::Turns::going_start, crate::proofs::Turns::going_step))]
+    #[tactic(auto, using(fsl_grammar::proofs::Turns::going_start, fsl_grammar::proofs::Turns::going_step))]
     fn more_arguments(&mut self, alloc: Global, room: u32) -> Result<List<NextArgument>, Fault>
         ensures shorter { OnOk result (length self.new.rest.now ≤ length self.old.rest.now) }
         ensures agrees { ReadsAs result self.new.rest.now (many_of (is_next Comma) (read_next_argument room)) self.old.rest.now }
@@ -106,6 +109,7 @@ impl<'a> Parser<'a> {
     }
 
     /// `[ arguments ]`, up to a `)` or `}`
+    #[tactic(auto, unfolding(fsl_grammar::specs::ReadExpressions::read_optional_arguments))]
     fn optional_arguments(&mut self, alloc: Global, room: u32) -> Result<Option<Arguments>, Fault>
         ensures shorter { OnOk result (length self.new.rest.now ≤ length self.old.rest.now) }
         ensures agrees { ReadsAs result self.new.rest.now (read_optional_arguments room) self.old.rest.now }
@@ -118,6 +122,7 @@ impl<'a> Parser<'a> {
     }
 
     /// `NAME "(" [ arguments ] ")"`
+    #[tactic(auto, unfolding(fsl_grammar::specs::ReadExpressions::read_usage))]
     pub fn usage(&mut self, alloc: Global, room: u32) -> Result<Use, Fault>
         ensures shorter { OnOk result (length self.new.rest.now < length self.old.rest.now) }
         ensures agrees { ReadsAs result self.new.rest.now (read_usage room) self.old.rest.now }
@@ -135,6 +140,7 @@ impl<'a> Parser<'a> {
     }
 
     /// A word and `"(" expression ")"`
+    #[tactic(auto, unfolding(fsl_grammar::specs::ReadGroups::read_enclosed))]
     pub fn enclosed(&mut self, alloc: Global, word: TokenKind, room: u32) -> Result<Enclosed, Fault>
         ensures shorter { OnOk result (length self.new.rest.now < length self.old.rest.now) }
         ensures agrees { ReadsAs result self.new.rest.now (read_enclosed word room) self.old.rest.now }
@@ -152,6 +158,7 @@ impl<'a> Parser<'a> {
     }
 
     /// A word and `"(" condition ")"`
+    #[tactic(auto, unfolding(fsl_grammar::specs::ReadGroups::read_test))]
     pub fn test(&mut self, alloc: Global, word: TokenKind, room: u32) -> Result<Test, Fault>
         ensures shorter { OnOk result (length self.new.rest.now < length self.old.rest.now) }
         ensures agrees { ReadsAs result self.new.rest.now (read_test word room) self.old.rest.now }
@@ -169,6 +176,7 @@ impl<'a> Parser<'a> {
     }
 
     /// `expression "," use`
+    #[tactic(auto, unfolding(fsl_grammar::specs::ReadGroups::read_held))]
     pub fn held(&mut self, alloc: Global, room: u32) -> Result<Held, Fault>
         ensures shorter { OnOk result (length self.new.rest.now < length self.old.rest.now) }
         ensures agrees { ReadsAs result self.new.rest.now (read_held room) self.old.rest.now }
@@ -184,6 +192,7 @@ impl<'a> Parser<'a> {
     }
 
     /// `"{" [ arguments ] "}"`
+    #[tactic(auto, unfolding(fsl_grammar::specs::ReadGroups::read_excluded_set))]
     pub fn excluded_set(&mut self, alloc: Global, room: u32) -> Result<ExcludedSet, Fault>
         ensures shorter { OnOk result (length self.new.rest.now < length self.old.rest.now) }
         ensures agrees { ReadsAs result self.new.rest.now (read_excluded_set room) self.old.rest.now }
@@ -199,6 +208,7 @@ impl<'a> Parser<'a> {
     }
 
     /// `"(" expression "," expression ")"`
+    #[tactic(auto, unfolding(fsl_grammar::specs::ReadGroups::read_pair))]
     pub fn pair(&mut self, alloc: Global, room: u32) -> Result<Pair, Fault>
         ensures shorter { OnOk result (length self.new.rest.now < length self.old.rest.now) }
         ensures agrees { ReadsAs result self.new.rest.now (read_pair room) self.old.rest.now }
@@ -216,6 +226,7 @@ impl<'a> Parser<'a> {
     }
 
     /// `"(" expression "," expression "," expression ")"`
+    #[tactic(auto, unfolding(fsl_grammar::specs::ReadGroups::read_triple))]
     pub fn triple(&mut self, alloc: Global, room: u32) -> Result<Triple, Fault>
         ensures shorter { OnOk result (length self.new.rest.now < length self.old.rest.now) }
         ensures agrees { ReadsAs result self.new.rest.now (read_triple room) self.old.rest.now }

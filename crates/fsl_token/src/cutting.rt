@@ -1,4 +1,4 @@
-//! Cuts a file into tokens.
+//! Cuts a file into tokens. They are defined in `specs/Tokens`; `specs/Reading` says of tokens which text they have.
 ghost use Rattle.std.specs.Prelude.{◌≡◌, ◌<◌, ◌^◌, ◌⊎◌, length, Err, IfOk};
 ghost use Rattle.fsl_token.specs.declared.fault.LexFault.{LexFault};
 ghost use Rattle.fsl_token.specs.Reading.{AreTokensOf};

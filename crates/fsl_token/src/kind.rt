@@ -1,4 +1,4 @@
-//! What a token is: the reserved words and symbols of the language, names and numbers.
+//! What a token is: the reserved words and symbols of the language, names and numbers. `specs/Words` has their texts.
 ghost use Rattle.std.specs.Prelude.{◌≡◌, option_map};
 ghost use Rattle.std.specs.List.{find};
 ghost use Rattle.fsl_token.specs.Words.{fixed_text, fixed_len, word_kind, symbol_kind, is_text, begins};
@@ -374,8 +374,10 @@ fn that_begins(kinds: &[TokenKind], text: &str) -> Option<TokenKind>
 /// A token at its place in the file.
 #[derive(Clone, Copy, Debug, PartialEq, Eq)]
 pub struct Token {
+    /// What it is.
     pub kind: TokenKind,
+    /// Its bytes; at least one.
     pub span: Span,
-    /// The value of a number; 0 for every other kind.
+    /// The value of a number, from 0 to 9223372036854775808; 0 for every other kind.
     pub number: u64,
 }

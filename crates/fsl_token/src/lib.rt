@@ -7,8 +7,6 @@ mod kind;
 mod lines;
 mod piece;
 mod places;
-#[cfg(test)]
-mod tests;
 
 pub use cutting::lex;
 pub use fault::LexFault;

@@ -1,4 +1,4 @@
-//! Counts lines and columns.
+//! Counts lines and columns, as `specs/Places` defines them.
 ghost use Rattle.std.specs.Prelude.{◌≡◌, ◌+◌, ◌<◌, ◌^◌, length, take};
 ghost use Rattle.std.specs.Str.{IsUtf8, IsCharBoundary};
 ghost use Rattle.fsl_token.specs.Places.{place_at, place_of, is_continuation};

@@ -1,4 +1,4 @@
-//! What begins a text: a gap between tokens, a token, or a fault.
+//! What begins a text: a gap between tokens, a token, or a fault. It is defined in `specs/Tokens`, as tokens are pieces.
 ghost use Rattle.std.specs.Prelude.{◌≡◌, ◌<◌, ◌||◌, ◌==◌, length, slice_index, IsTrue};
 ghost use Rattle.std.specs.Char.{is_ascii_digit};
 ghost use Rattle.std.specs.List.{prefix_len};
@@ -14,7 +14,7 @@ const LARGEST_NUMBER: u64 = 9223372036854775808;
 const LONGEST_NAME: usize = 64;
 
 /// What begins a text that isn't empty.
-#[derive(Clone, Copy, Debug, PartialEq, Eq)]
+#[derive(Clone, Copy)]
 pub(crate) enum Piece {
     /// A blank or a comment of `len` bytes.
     Gap {

@@ -14,7 +14,7 @@ use Rattle.fsl_tree.specs.declared.assertion.Relation.TheVariants as relations
 use Rattle.fsl_tree.specs.declared.assertion.Share.{Share}
 use Rattle.fsl_tree.specs.declared.assertion.Pattern.{Pattern}
 use Rattle.fsl_tree.specs.declared.assertion.Pattern.TheVariants as patterns
-use Rattle.fsl_tree.specs.SpelledExpressions.{Spelled, fixed, numeral, all, expression, comparison_token, condition, optional_arguments, usage}
+use Rattle.fsl_tree.specs.SpelledExpressions.{Spelled, fixed, numeral, all, expression, comparison_token, usage, grouped, tested, held, excluded_set}
 
 abbrev pub bank_word_token : BankWord → Token
 bank_word_token (bank_words.Tok place) = fixed kind.TokAssertion place
@@ -38,28 +38,24 @@ relation (relations.PointsTo arrow share value) after = fixed kind.PointsTo arro
 abbrev pub atom_step : Atom-F Spelled Spelled Spelled → Spelled
 atom_step (Atom-F.Empty word) after = fixed kind.Emp word ∷ after
 atom_step (Atom-F.Choice word start holds end first_start first first_end otherwise second_start second second_end) after =
-    fixed kind.If word ∷ fixed kind.OpenParen start ∷ condition holds (
-    fixed kind.CloseParen end ∷ fixed kind.OpenBrace first_start ∷ first (
+    fixed kind.If word ∷ tested start holds end (
+    fixed kind.OpenBrace first_start ∷ first (
     fixed kind.CloseBrace first_end ∷ fixed kind.Else otherwise ∷ fixed kind.OpenBrace second_start ∷ second (
     fixed kind.CloseBrace second_end ∷ after)))
 atom_step (Atom-F.Up word start inside end) after =
     fixed kind.Up word ∷ fixed kind.OpenParen start ∷ inside (fixed kind.CloseParen end ∷ after)
 atom_step (Atom-F.Down word start inside end) after =
     fixed kind.Down word ∷ fixed kind.OpenParen start ∷ inside (fixed kind.CloseParen end ∷ after)
-atom_step (Atom-F.Init word start location end) after =
-    fixed kind.InitAssertion word ∷ fixed kind.OpenParen start ∷ expression location (fixed kind.CloseParen end ∷ after)
+atom_step (Atom-F.Init word start location end) after = fixed kind.InitAssertion word ∷ grouped start location end after
 atom_step (Atom-F.Rel word start location comma invariant end) after =
-    fixed kind.RelAssertion word ∷ fixed kind.OpenParen start ∷ expression location (
-    fixed kind.Comma comma ∷ usage invariant (fixed kind.CloseParen end ∷ after))
+    fixed kind.RelAssertion word ∷ held start location comma invariant end after
 atom_step (Atom-F.RmwAcq word start location comma invariant end) after =
-    fixed kind.RmwAcqAssertion word ∷ fixed kind.OpenParen start ∷ expression location (
-    fixed kind.Comma comma ∷ usage invariant (fixed kind.CloseParen end ∷ after))
+    fixed kind.RmwAcqAssertion word ∷ held start location comma invariant end after
 atom_step (Atom-F.Acq word start location use_comma invariant part_comma part value set_comma set_start excluded set_end end) after =
     fixed kind.AcqAssertion word ∷ fixed kind.OpenParen start ∷ expression location (
     fixed kind.Comma use_comma ∷ usage invariant (
-    fixed kind.Comma part_comma ∷ numeral part value ∷ fixed kind.Comma set_comma ∷
-    fixed kind.OpenBrace set_start ∷ optional_arguments excluded (
-    fixed kind.CloseBrace set_end ∷ fixed kind.CloseParen end ∷ after)))
+    fixed kind.Comma part_comma ∷ numeral part value ∷ fixed kind.Comma set_comma ∷ excluded_set set_start excluded set_end (
+    fixed kind.CloseParen end ∷ after)))
 atom_step (Atom-F.Bank word start bank comma amount end) after =
     bank_word_token word ∷ fixed kind.OpenParen start ∷ fixed kind.Name bank ∷ fixed kind.Comma comma ∷ expression amount (
     fixed kind.CloseParen end ∷ after)

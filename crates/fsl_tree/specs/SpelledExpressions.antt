@@ -111,3 +111,27 @@ optional_arguments (Some a) after = arguments a after
 abbrev pub usage : Use → Spelled
 usage u after =
     fixed kind.Name u.name ∷ fixed kind.OpenParen u.open ∷ optional_arguments u.arguments (fixed kind.CloseParen u.close ∷ after)
+
+-- ---- groups that several productions share
+
+-- `"(" expression ")"`
+abbrev pub grouped : Span → Expression → Span → Spelled
+grouped start inside end after = fixed kind.OpenParen start ∷ expression inside (fixed kind.CloseParen end ∷ after)
+
+-- `"(" condition ")"`
+abbrev pub tested : Span → Condition → Span → Spelled
+tested start holds end after = fixed kind.OpenParen start ∷ condition holds (fixed kind.CloseParen end ∷ after)
+
+-- `"(" expression "," expression ")"`
+abbrev pub pair : Span → Expression → Span → Expression → Span → Spelled
+pair start first comma second end after =
+    fixed kind.OpenParen start ∷ expression first (fixed kind.Comma comma ∷ expression second (fixed kind.CloseParen end ∷ after))
+
+-- `"(" expression "," use ")"`
+abbrev pub held : Span → Expression → Span → Use → Span → Spelled
+held start location comma invariant end after =
+    fixed kind.OpenParen start ∷ expression location (fixed kind.Comma comma ∷ usage invariant (fixed kind.CloseParen end ∷ after))
+
+-- `"{" [ arguments ] "}"`
+abbrev pub excluded_set : Span → Option Arguments → Span → Spelled
+excluded_set start excluded end after = fixed kind.OpenBrace start ∷ optional_arguments excluded (fixed kind.CloseBrace end ∷ after)

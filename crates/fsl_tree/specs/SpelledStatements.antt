@@ -1,5 +1,6 @@
 -- The tokens of statements and blocks, in front of those that follow them.
 use Rattle.std.specs.Prelude.{◌∷◌, Option, Some, None, map}
+use Rattle.fsl_base.specs.declared.span.Span.{Span}
 use Rattle.fsl_token.specs.declared.kind.Token.{Token}
 use Rattle.fsl_token.specs.declared.kind.TokenKind.{TokenKind}
 use Rattle.fsl_token.specs.declared.kind.TokenKind.TheVariants as kind
@@ -30,7 +31,7 @@ use Rattle.fsl_tree.specs.declared.statement.Block.{Block}
 use Rattle.fsl_tree.specs.declared.statement.Otherwise.{Otherwise}
 use Rattle.fsl_tree.specs.declared.statement.Statement.TheOpen.{Statement-F, Block-F, Otherwise-F}
 use Rattle.fsl_tree.specs.declared.statement.Statement.TheFolds.{fold-Statement, fold-Block, fold-Otherwise}
-use Rattle.fsl_tree.specs.SpelledExpressions.{Spelled, fixed, all, expression, condition, usage}
+use Rattle.fsl_tree.specs.SpelledExpressions.{Spelled, fixed, all, expression, usage, grouped, tested, pair}
 use Rattle.fsl_tree.specs.SpelledAssertions.{assertion}
 
 -- ---- right sides
@@ -76,16 +77,14 @@ right_side (right_sides.Value value) after = expression value after
 right_side (right_sides.Call word callee) after = fixed kind.Call word ∷ usage callee after
 right_side (right_sides.Allocate word what) after = fixed kind.Alloc word ∷ allocation what after
 right_side (right_sides.Load word mode start location end) after =
-    fixed kind.Load word ∷ mode_token mode ∷ fixed kind.OpenParen start ∷ expression location (fixed kind.CloseParen end ∷ after)
+    fixed kind.Load word ∷ mode_token mode ∷ grouped start location end after
 right_side (right_sides.CompareAndSwap word success failure start location expected_comma expected new_comma new end timed) after =
     fixed kind.Cas word ∷ mode_token success ∷ mode_token failure ∷ fixed kind.OpenParen start ∷ expression location (
     fixed kind.Comma expected_comma ∷ expression expected (
     fixed kind.Comma new_comma ∷ expression new (
     fixed kind.CloseParen end ∷ optional_with timed after)))
 right_side (right_sides.Update word mode start location comma operand end timed) after =
-    update_word_token word ∷ mode_token mode ∷ fixed kind.OpenParen start ∷ expression location (
-    fixed kind.Comma comma ∷ expression operand (
-    fixed kind.CloseParen end ∷ optional_with timed after))
+    update_word_token word ∷ mode_token mode ∷ pair start location comma operand end (optional_with timed after)
 
 -- ---- parts of statements
 
@@ -113,6 +112,11 @@ fence (fences.Acquire word) after = fixed kind.Acq word ∷ after
 fence (fences.Release word start given end) after =
     release_word_token word ∷ fixed kind.OpenParen start ∷ assertion given (fixed kind.CloseParen end ∷ after)
 
+-- `NAME "=" right_side ";"`
+abbrev pub assigned : Span → Span → RightSide → Span → Spelled
+assigned name equals right semicolon after =
+    fixed kind.Name name ∷ fixed kind.Assign equals ∷ right_side right (fixed kind.Semicolon semicolon ∷ after)
+
 -- ---- one level of a statement, with the tokens of each block in its place
 
 abbrev pub optional_part : Option Spelled → Spelled
@@ -120,13 +124,10 @@ optional_part None after = after
 optional_part (Some part) after = part after
 
 abbrev pub statement_step : Statement-F Spelled Spelled Spelled → Spelled
-statement_step (Statement-F.Let word name equals right semicolon) after =
-    fixed kind.Let word ∷ fixed kind.Name name ∷ fixed kind.Assign equals ∷ right_side right (fixed kind.Semicolon semicolon ∷ after)
-statement_step (Statement-F.Assign name equals right semicolon) after =
-    fixed kind.Name name ∷ fixed kind.Assign equals ∷ right_side right (fixed kind.Semicolon semicolon ∷ after)
+statement_step (Statement-F.Let word name equals right semicolon) after = fixed kind.Let word ∷ assigned name equals right semicolon after
+statement_step (Statement-F.Assign name equals right semicolon) after = assigned name equals right semicolon after
 statement_step (Statement-F.Store word mode start location comma value end semicolon) after =
-    fixed kind.Store word ∷ mode_token mode ∷ fixed kind.OpenParen start ∷ expression location (
-    fixed kind.Comma comma ∷ expression value (fixed kind.CloseParen end ∷ fixed kind.Semicolon semicolon ∷ after))
+    fixed kind.Store word ∷ mode_token mode ∷ pair start location comma value end (fixed kind.Semicolon semicolon ∷ after)
 statement_step (Statement-F.Call word callee semicolon) after =
     fixed kind.Call word ∷ usage callee (fixed kind.Semicolon semicolon ∷ after)
 statement_step (Statement-F.Parallel word start calls end) after =
@@ -134,20 +135,15 @@ statement_step (Statement-F.Parallel word start calls end) after =
 statement_step (Statement-F.Fence word what semicolon) after =
     fixed kind.Fence word ∷ fence what (fixed kind.Semicolon semicolon ∷ after)
 statement_step (Statement-F.If word start holds end then_block otherwise) after =
-    fixed kind.If word ∷ fixed kind.OpenParen start ∷ condition holds (
-    fixed kind.CloseParen end ∷ then_block (optional_part otherwise after))
+    fixed kind.If word ∷ tested start holds end (then_block (optional_part otherwise after))
 statement_step (Statement-F.While word start holds end invariant body) after =
-    fixed kind.While word ∷ fixed kind.OpenParen start ∷ condition holds (
-    fixed kind.CloseParen end ∷ optional_clause kind.Inv invariant (body after))
+    fixed kind.While word ∷ tested start holds end (optional_clause kind.Inv invariant (body after))
 statement_step (Statement-F.Assert word start holds end semicolon) after =
-    fixed kind.Assert word ∷ fixed kind.OpenParen start ∷ condition holds (
-    fixed kind.CloseParen end ∷ fixed kind.Semicolon semicolon ∷ after)
+    fixed kind.Assert word ∷ tested start holds end (fixed kind.Semicolon semicolon ∷ after)
 statement_step (Statement-F.Print word start value end semicolon) after =
-    fixed kind.Print word ∷ fixed kind.OpenParen start ∷ expression value (
-    fixed kind.CloseParen end ∷ fixed kind.Semicolon semicolon ∷ after)
+    fixed kind.Print word ∷ grouped start value end (fixed kind.Semicolon semicolon ∷ after)
 statement_step (Statement-F.Free word start location end semicolon) after =
-    fixed kind.Free word ∷ fixed kind.OpenParen start ∷ expression location (
-    fixed kind.CloseParen end ∷ fixed kind.Semicolon semicolon ∷ after)
+    fixed kind.Free word ∷ grouped start location end (fixed kind.Semicolon semicolon ∷ after)
 statement_step (Statement-F.Return word value semicolon) after =
     fixed kind.Return word ∷ optional_expression value (fixed kind.Semicolon semicolon ∷ after)
 statement_step (Statement-F.Bank word name semicolon) after =

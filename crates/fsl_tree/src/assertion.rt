@@ -116,7 +116,7 @@ pub enum Atom {
 }
 
 /// `"Tok" | "Auth"`
-#[derive(Clone, Copy, Debug, PartialEq, Eq)]
+#[derive(Clone, Copy)]
 pub enum BankWord {
     Tok { place: Span },
     Auth { place: Span },

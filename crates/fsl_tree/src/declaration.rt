@@ -81,7 +81,7 @@ pub struct NextParameter {
 }
 
 /// `[ "bank" ] NAME`
-#[derive(Clone, Copy, Debug, PartialEq, Eq)]
+#[derive(Clone, Copy)]
 pub struct Parameter {
     pub bank: Option<Span>,
     pub name: Span,

@@ -18,7 +18,7 @@ pub struct Addend {
 }
 
 /// `"+" | "-"`
-#[derive(Clone, Copy, Debug, PartialEq, Eq)]
+#[derive(Clone, Copy)]
 pub enum Sign {
     Plus { place: Span },
     Minus { place: Span },
@@ -66,7 +66,7 @@ pub enum Factor {
 }
 
 /// `"==" | "!=" | "<" | "<=" | ">" | ">="`
-#[derive(Clone, Copy, Debug, PartialEq, Eq)]
+#[derive(Clone, Copy)]
 pub enum Comparison {
     Equal { place: Span },
     NotEqual { place: Span },

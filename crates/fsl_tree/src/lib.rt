@@ -33,6 +33,3 @@ pub use right_side::{
 };
 pub use spell_declarations::spell;
 pub use statement::{Block, FenceKind, Otherwise, ParallelCall, ReleaseWord, Statement};
-
-#[cfg(test)]
-mod tests;

@@ -62,21 +62,21 @@ pub enum Allocation {
 }
 
 /// `"acq" | "rmw"`
-#[derive(Clone, Copy, Debug, PartialEq, Eq)]
+#[derive(Clone, Copy)]
 pub enum SharedCell {
     Acq { place: Span },
     Rmw { place: Span },
 }
 
 /// `"fetch_add" | "exchange"`
-#[derive(Clone, Copy, Debug, PartialEq, Eq)]
+#[derive(Clone, Copy)]
 pub enum UpdateWord {
     FetchAdd { place: Span },
     Exchange { place: Span },
 }
 
 /// `"na" | "rlx" | "acq" | "rel" | "acqrel"`
-#[derive(Clone, Copy, Debug, PartialEq, Eq)]
+#[derive(Clone, Copy)]
 pub enum Mode {
     NonAtomic { place: Span },
     Relaxed { place: Span },
@@ -113,7 +113,7 @@ pub struct Step {
 }
 
 /// `"mint" | "burn"`
-#[derive(Clone, Copy, Debug, PartialEq, Eq)]
+#[derive(Clone, Copy)]
 pub enum StepWord {
     Mint { place: Span },
     Burn { place: Span },

@@ -65,9 +65,7 @@ impl Following {
                 self.fixed(TokenKind::CloseBrace, *first_close)?;
                 self.assertion(first.get())?;
                 self.fixed(TokenKind::OpenBrace, *first_open)?;
-                self.fixed(TokenKind::CloseParen, *close)?;
-                self.condition(condition)?;
-                self.fixed(TokenKind::OpenParen, *open)?;
+                self.tested(*open, condition, *close)?;
                 self.fixed(TokenKind::If, *word)
             }
             Atom::Up {
@@ -98,9 +96,7 @@ impl Following {
                 location,
                 close,
             } => {
-                self.fixed(TokenKind::CloseParen, *close)?;
-                self.expression(location)?;
-                self.fixed(TokenKind::OpenParen, *open)?;
+                self.grouped(*open, location, *close)?;
                 self.fixed(TokenKind::InitAssertion, *word)
             }
             Atom::Rel {
@@ -111,11 +107,7 @@ impl Following {
                 invariant,
                 close,
             } => {
-                self.fixed(TokenKind::CloseParen, *close)?;
-                self.usage(invariant)?;
-                self.fixed(TokenKind::Comma, *comma)?;
-                self.expression(location)?;
-                self.fixed(TokenKind::OpenParen, *open)?;
+                self.held(*open, location, *comma, invariant, *close)?;
                 self.fixed(TokenKind::RelAssertion, *word)
             }
             Atom::RmwAcq {
@@ -126,11 +118,7 @@ impl Following {
                 invariant,
                 close,
             } => {
-                self.fixed(TokenKind::CloseParen, *close)?;
-                self.usage(invariant)?;
-                self.fixed(TokenKind::Comma, *comma)?;
-                self.expression(location)?;
-                self.fixed(TokenKind::OpenParen, *open)?;
+                self.held(*open, location, *comma, invariant, *close)?;
                 self.fixed(TokenKind::RmwAcqAssertion, *word)
             }
             Atom::Acq {
@@ -149,9 +137,7 @@ impl Following {
                 close,
             } => {
                 self.fixed(TokenKind::CloseParen, *close)?;
-                self.fixed(TokenKind::CloseBrace, *set_close)?;
-                self.optional_arguments(excluded)?;
-                self.fixed(TokenKind::OpenBrace, *set_open)?;
+                self.excluded_set(*set_open, excluded, *set_close)?;
                 self.fixed(TokenKind::Comma, *set_comma)?;
                 self.number(*part, *part_value)?;
                 self.fixed(TokenKind::Comma, *part_comma)?;

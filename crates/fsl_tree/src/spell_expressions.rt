@@ -1,12 +1,13 @@
 //! The tokens of expressions, comparisons and uses, put in front of those that follow them.
 ghost use Rattle.std.specs.Prelude.{◌≡◌, ◌∷◌, OnOk, map};
-ghost use Rattle.fsl_tree.specs.SpelledExpressions.{all, sign_token, factor, addend, expression, multiplier, term, comparison_token, condition, next_argument, arguments, optional_arguments, usage};
+ghost use Rattle.fsl_tree.specs.SpelledExpressions.{all, sign_token, factor, addend, expression, multiplier, term, comparison_token, condition, next_argument, arguments, optional_arguments, usage, grouped, tested, pair, held, excluded_set};
 
 use crate::expression::{
     Addend, Arguments, Comparison, Condition, Expression, Factor, Multiplier, NextArgument, Sign,
     Term, Use,
 };
 use crate::following::Following;
+use fsl_base::Span;
 use fsl_token::TokenKind;
 use std::alloc::AllocError;
 
@@ -170,5 +171,73 @@ impl Following {
         self.optional_arguments(&part.arguments)?;
         self.fixed(TokenKind::OpenParen, part.open)?;
         self.fixed(TokenKind::Name, part.name)
+    }
+
+    /// `"(" expression ")"`
+    pub fn grouped(&mut self, open: Span, part: &Expression, close: Span) -> Result<(), AllocError>
+        ensures { OnOk result (self.new ≡ grouped «open» part.now close self.old) }
+    {
+        self.fixed(TokenKind::CloseParen, close)?;
+        self.expression(part)?;
+        self.fixed(TokenKind::OpenParen, open)
+    }
+
+    /// `"(" condition ")"`
+    pub fn tested(&mut self, open: Span, part: &Condition, close: Span) -> Result<(), AllocError>
+        ensures { OnOk result (self.new ≡ tested «open» part.now close self.old) }
+    {
+        self.fixed(TokenKind::CloseParen, close)?;
+        self.condition(part)?;
+        self.fixed(TokenKind::OpenParen, open)
+    }
+
+    /// `"(" expression "," expression ")"`
+    pub fn pair(
+        &mut self,
+        open: Span,
+        first: &Expression,
+        comma: Span,
+        second: &Expression,
+        close: Span,
+    ) -> Result<(), AllocError>
+        ensures { OnOk result (self.new ≡ pair «open» first.now comma second.now close self.old) }
+    {
+        self.fixed(TokenKind::CloseParen, close)?;
+        self.expression(second)?;
+        self.fixed(TokenKind::Comma, comma)?;
+        self.expression(first)?;
+        self.fixed(TokenKind::OpenParen, open)
+    }
+
+    /// `"(" expression "," use ")"`
+    pub fn held(
+        &mut self,
+        open: Span,
+        location: &Expression,
+        comma: Span,
+        invariant: &Use,
+        close: Span,
+    ) -> Result<(), AllocError>
+        ensures { OnOk result (self.new ≡ held «open» location.now comma invariant.now close self.old) }
+    {
+        self.fixed(TokenKind::CloseParen, close)?;
+        self.usage(invariant)?;
+        self.fixed(TokenKind::Comma, comma)?;
+        self.expression(location)?;
+        self.fixed(TokenKind::OpenParen, open)
+    }
+
+    /// `"{" [ arguments ] "}"`
+    pub fn excluded_set(
+        &mut self,
+        open: Span,
+        part: &Option<Arguments>,
+        close: Span,
+    ) -> Result<(), AllocError>
+        ensures { OnOk result (self.new ≡ excluded_set «open» part.now close self.old) }
+    {
+        self.fixed(TokenKind::CloseBrace, close)?;
+        self.optional_arguments(part)?;
+        self.fixed(TokenKind::OpenBrace, open)
     }
 }

@@ -31,9 +31,7 @@ impl Following {
                 location,
                 close,
             } => {
-                self.fixed(TokenKind::CloseParen, *close)?;
-                self.expression(location)?;
-                self.fixed(TokenKind::OpenParen, *open)?;
+                self.grouped(*open, location, *close)?;
                 self.mode(*mode)?;
                 self.fixed(TokenKind::Load, *word)
             }
@@ -73,11 +71,7 @@ impl Following {
                 with,
             } => {
                 self.optional_with(with)?;
-                self.fixed(TokenKind::CloseParen, *close)?;
-                self.expression(operand)?;
-                self.fixed(TokenKind::Comma, *comma)?;
-                self.expression(location)?;
-                self.fixed(TokenKind::OpenParen, *open)?;
+                self.pair(*open, location, *comma, operand, *close)?;
                 self.mode(*mode)?;
                 self.update_word(*word)
             }

@@ -1,12 +1,14 @@
 //! The tokens of statements and blocks, put in front of those that follow them.
 ghost use Rattle.std.specs.Prelude.{◌≡◌, ◌∷◌, OnOk, map};
 ghost use Rattle.fsl_tree.specs.SpelledExpressions.{all};
-ghost use Rattle.fsl_tree.specs.SpelledStatements.{clause, optional_clause, optional_expression, parallel_call, release_word_token, fence, statement, block, otherwise, optional_otherwise};
+ghost use Rattle.fsl_tree.specs.SpelledStatements.{assigned, clause, optional_clause, optional_expression, parallel_call, release_word_token, fence, statement, block, otherwise, optional_otherwise};
 
 use crate::declaration::Clause;
 use crate::expression::Expression;
 use crate::following::Following;
+use crate::right_side::RightSide;
 use crate::statement::{Block, FenceKind, Otherwise, ParallelCall, ReleaseWord, Statement};
+use fsl_base::Span;
 use fsl_token::TokenKind;
 use std::alloc::AllocError;
 
@@ -45,10 +47,7 @@ impl Following {
                 right,
                 semicolon,
             } => {
-                self.fixed(TokenKind::Semicolon, *semicolon)?;
-                self.right_side(right)?;
-                self.fixed(TokenKind::Assign, *equals)?;
-                self.fixed(TokenKind::Name, *name)?;
+                self.assigned(*name, *equals, right, *semicolon)?;
                 self.fixed(TokenKind::Let, *word)
             }
             Statement::Assign {
@@ -56,12 +55,7 @@ impl Following {
                 equals,
                 right,
                 semicolon,
-            } => {
-                self.fixed(TokenKind::Semicolon, *semicolon)?;
-                self.right_side(right)?;
-                self.fixed(TokenKind::Assign, *equals)?;
-                self.fixed(TokenKind::Name, *name)
-            }
+            } => self.assigned(*name, *equals, right, *semicolon),
             Statement::Store {
                 word,
                 mode,
@@ -73,11 +67,7 @@ impl Following {
                 semicolon,
             } => {
                 self.fixed(TokenKind::Semicolon, *semicolon)?;
-                self.fixed(TokenKind::CloseParen, *close)?;
-                self.expression(value)?;
-                self.fixed(TokenKind::Comma, *comma)?;
-                self.expression(location)?;
-                self.fixed(TokenKind::OpenParen, *open)?;
+                self.pair(*open, location, *comma, value, *close)?;
                 self.mode(*mode)?;
                 self.fixed(TokenKind::Store, *word)
             }
@@ -120,9 +110,7 @@ impl Following {
             } => {
                 self.optional_otherwise(otherwise)?;
                 self.block(then_block)?;
-                self.fixed(TokenKind::CloseParen, *close)?;
-                self.condition(condition)?;
-                self.fixed(TokenKind::OpenParen, *open)?;
+                self.tested(*open, condition, *close)?;
                 self.fixed(TokenKind::If, *word)
             }
             Statement::While {
@@ -135,9 +123,7 @@ impl Following {
             } => {
                 self.block(body)?;
                 self.optional_clause(invariant, TokenKind::Inv)?;
-                self.fixed(TokenKind::CloseParen, *close)?;
-                self.condition(condition)?;
-                self.fixed(TokenKind::OpenParen, *open)?;
+                self.tested(*open, condition, *close)?;
                 self.fixed(TokenKind::While, *word)
             }
             Statement::Assert {
@@ -148,9 +134,7 @@ impl Following {
                 semicolon,
             } => {
                 self.fixed(TokenKind::Semicolon, *semicolon)?;
-                self.fixed(TokenKind::CloseParen, *close)?;
-                self.condition(condition)?;
-                self.fixed(TokenKind::OpenParen, *open)?;
+                self.tested(*open, condition, *close)?;
                 self.fixed(TokenKind::Assert, *word)
             }
             Statement::Print {
@@ -161,9 +145,7 @@ impl Following {
                 semicolon,
             } => {
                 self.fixed(TokenKind::Semicolon, *semicolon)?;
-                self.fixed(TokenKind::CloseParen, *close)?;
-                self.expression(value)?;
-                self.fixed(TokenKind::OpenParen, *open)?;
+                self.grouped(*open, value, *close)?;
                 self.fixed(TokenKind::Print, *word)
             }
             Statement::Free {
@@ -174,9 +156,7 @@ impl Following {
                 semicolon,
             } => {
                 self.fixed(TokenKind::Semicolon, *semicolon)?;
-                self.fixed(TokenKind::CloseParen, *close)?;
-                self.expression(location)?;
-                self.fixed(TokenKind::OpenParen, *open)?;
+                self.grouped(*open, location, *close)?;
                 self.fixed(TokenKind::Free, *word)
             }
             Statement::Return {
@@ -221,6 +201,22 @@ impl Following {
             None => Ok(()),
             Some(otherwise) => self.otherwise(otherwise),
         }
+    }
+
+    /// `NAME "=" right_side ";"`
+    fn assigned(
+        &mut self,
+        name: Span,
+        equals: Span,
+        right: &RightSide,
+        semicolon: Span,
+    ) -> Result<(), AllocError>
+        ensures { OnOk result (self.new ≡ assigned name equals right.now semicolon self.old) }
+    {
+        self.fixed(TokenKind::Semicolon, semicolon)?;
+        self.right_side(right)?;
+        self.fixed(TokenKind::Assign, equals)?;
+        self.fixed(TokenKind::Name, name)
     }
 
     fn clause(&mut self, part: &Clause, word: TokenKind) -> Result<(), AllocError>

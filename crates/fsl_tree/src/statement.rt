@@ -154,7 +154,7 @@ pub enum FenceKind {
 }
 
 /// `"rel" | "acqrel"`
-#[derive(Clone, Copy, Debug, PartialEq, Eq)]
+#[derive(Clone, Copy)]
 pub enum ReleaseWord {
     Release { place: Span },
     AcquireRelease { place: Span },

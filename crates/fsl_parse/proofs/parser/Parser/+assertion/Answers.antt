@@ -1,9 +1,9 @@
 use Rattle.std.proofs.Common.{◌≡◌, ◌∙◌, sym, refl, ◌-◌}
 use Rattle.fsl_token.specs.declared.kind.TokenKind.TheVariants as kind
-use Rattle.fsl_parse.specs.Heads.{is_next}
-use Rattle.fsl_parse.specs.ReadAssertions.{read_conjunct, read_atom, read_choice, read_raised, read_lowered, read_named_or_related}
-use Rattle.fsl_parse.proofs.Rooms.{agrees_by, is_choice, is_raised, is_lowered, is_named}
-use Rattle.fsl_parse.proofs.Turns.{going_stop, going_failed}
+use Rattle.fsl_grammar.specs.Heads.{is_next}
+use Rattle.fsl_grammar.specs.ReadAssertions.{read_conjunct, read_atom, read_choice, read_raised, read_lowered, read_named_or_related}
+use Rattle.fsl_grammar.proofs.Rooms.{agrees_by, is_choice, is_raised, is_lowered, is_named}
+use Rattle.fsl_grammar.proofs.Turns.{going_stop, going_failed}
 use Rattle.fsl_parse.proofs.parser.Parser.+assertion.Goals as goal
 
 pub conjuncts-returns-in_err-conjunct-clause-agrees : goal.conjuncts-returns-in_err-conjunct-clause-agrees

@@ -1,8 +1,8 @@
 use Rattle.std.proofs.Common.{◌≤◌, ◌*◌, ◌+◌, length}
 use Rattle.fsl_token.specs.declared.kind.TokenKind.TheVariants as kind
-use Rattle.fsl_parse.specs.Heads.{is_next}
-use Rattle.fsl_parse.specs.ReadAssertions.{read_conjunct, read_atom}
-use Rattle.fsl_parse.proofs.Turns.{Going}
+use Rattle.fsl_grammar.specs.Heads.{is_next}
+use Rattle.fsl_grammar.specs.ReadAssertions.{read_conjunct, read_atom}
+use Rattle.fsl_grammar.proofs.Turns.{Going}
 use Rattle.fsl_parse.proofs.parser.Parser.+assertion.Given as goal
 
 abbrev pub decreases-assertion : goal.decreases-assertion

@@ -1,8 +1,8 @@
 use Rattle.std.proofs.Common.{◌≡◌, ◌∙◌, sym, refl}
 use Rattle.fsl_token.specs.declared.kind.TokenKind.TheVariants as kind
-use Rattle.fsl_parse.specs.Heads.{is_next}
-use Rattle.fsl_parse.specs.ReadExpressions.{is_sign_next, read_addend, read_multiplier, read_factor}
-use Rattle.fsl_parse.proofs.Turns.{going_stop, going_failed}
+use Rattle.fsl_grammar.specs.Heads.{is_next}
+use Rattle.fsl_grammar.specs.ReadExpressions.{is_sign_next, read_addend, read_multiplier, read_factor}
+use Rattle.fsl_grammar.proofs.Turns.{going_stop, going_failed}
 use Rattle.fsl_parse.proofs.parser.Parser.+expression.Goals as goal
 
 pub addends-returns-in_err-addend-clause-agrees : goal.addends-returns-in_err-addend-clause-agrees

@@ -1,8 +1,8 @@
 use Rattle.std.proofs.Common.{◌≤◌, ◌*◌, ◌+◌, length}
 use Rattle.fsl_token.specs.declared.kind.TokenKind.TheVariants as kind
-use Rattle.fsl_parse.specs.Heads.{is_next}
-use Rattle.fsl_parse.specs.ReadExpressions.{is_sign_next, read_addend, read_multiplier, read_factor}
-use Rattle.fsl_parse.proofs.Turns.{Going}
+use Rattle.fsl_grammar.specs.Heads.{is_next}
+use Rattle.fsl_grammar.specs.ReadExpressions.{is_sign_next, read_addend, read_multiplier, read_factor}
+use Rattle.fsl_grammar.proofs.Turns.{Going}
 use Rattle.fsl_parse.proofs.parser.Parser.+expression.Given as goal
 
 abbrev pub decreases-expression : goal.decreases-expression

@@ -1,7 +1,7 @@
 use Rattle.std.proofs.Common.{◌≡◌, ◌∙◌, sym, refl, ◌-◌}
-use Rattle.fsl_parse.specs.ReadStatements.{goes_on, read_statement, read_if, read_guarded_while, read_simple_statement}
-use Rattle.fsl_parse.proofs.Rooms.{agrees_by, is_if, is_while, is_simple}
-use Rattle.fsl_parse.proofs.Turns.{going_stop, going_failed}
+use Rattle.fsl_grammar.specs.ReadStatements.{goes_on, read_statement, read_if, read_guarded_while, read_simple_statement}
+use Rattle.fsl_grammar.proofs.Rooms.{agrees_by, is_if, is_while, is_simple}
+use Rattle.fsl_grammar.proofs.Turns.{going_stop, going_failed}
 use Rattle.fsl_parse.proofs.parser.Parser.+statement.Goals as goal
 
 pub statements-returns-in_err-statement-clause-agrees : goal.statements-returns-in_err-statement-clause-agrees

@@ -1,6 +1,6 @@
 use Rattle.std.proofs.Common.{◌≤◌, ◌*◌, ◌+◌, length}
-use Rattle.fsl_parse.specs.ReadStatements.{goes_on, read_statement}
-use Rattle.fsl_parse.proofs.Turns.{Going}
+use Rattle.fsl_grammar.specs.ReadStatements.{goes_on, read_statement}
+use Rattle.fsl_grammar.proofs.Turns.{Going}
 use Rattle.fsl_parse.proofs.parser.Parser.+statement.Given as goal
 
 abbrev pub decreases-statements : goal.decreases-statements

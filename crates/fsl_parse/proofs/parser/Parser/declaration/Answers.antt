@@ -1,6 +1,6 @@
 use Rattle.std.proofs.Common.{◌≡◌, ◌∙◌, sym}
-use Rattle.fsl_parse.specs.ReadDeclarations.{read_declaration, read_contracted_procedure}
-use Rattle.fsl_parse.proofs.Rooms.{agrees_by, is_procedure}
+use Rattle.fsl_grammar.specs.ReadDeclarations.{read_declaration, read_contracted_procedure}
+use Rattle.fsl_grammar.proofs.Rooms.{agrees_by, is_procedure}
 use Rattle.fsl_parse.proofs.parser.Parser.declaration.Goals as goal
 
 pub returns-else-is_next-2-clause-agrees : goal.returns-else-is_next-2-clause-agrees

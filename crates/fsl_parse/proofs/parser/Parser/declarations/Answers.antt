@@ -1,7 +1,7 @@
 use Rattle.std.proofs.Common.{◌≡◌, ◌∙◌, sym, refl}
-use Rattle.fsl_parse.specs.Heads.{is_more}
-use Rattle.fsl_parse.specs.ReadDeclarations.{read_declaration}
-use Rattle.fsl_parse.proofs.Turns.{going_stop, going_failed}
+use Rattle.fsl_grammar.specs.Heads.{is_more}
+use Rattle.fsl_grammar.specs.ReadDeclarations.{read_declaration}
+use Rattle.fsl_grammar.proofs.Turns.{going_stop, going_failed}
 use Rattle.fsl_parse.proofs.parser.Parser.declarations.Goals as goal
 
 pub returns-in_err-declaration : goal.returns-in_err-declaration

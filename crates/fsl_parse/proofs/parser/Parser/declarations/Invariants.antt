@@ -1,7 +1,7 @@
 use Rattle.std.proofs.Common.{length}
-use Rattle.fsl_parse.specs.ReadDeclarations.{read_declaration}
-use Rattle.fsl_parse.specs.Heads.{is_more}
-use Rattle.fsl_parse.proofs.Turns.{Going}
+use Rattle.fsl_grammar.specs.ReadDeclarations.{read_declaration}
+use Rattle.fsl_grammar.specs.Heads.{is_more}
+use Rattle.fsl_grammar.proofs.Turns.{Going}
 use Rattle.fsl_parse.proofs.parser.Parser.declarations.Given as goal
 
 abbrev pub invariant-declarations : goal.invariant-declarations

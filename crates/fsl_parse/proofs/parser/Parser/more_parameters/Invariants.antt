@@ -1,8 +1,8 @@
 use Rattle.std.proofs.Common.{◌≤◌, length}
 use Rattle.fsl_token.specs.declared.kind.TokenKind.TheVariants as kind
-use Rattle.fsl_parse.specs.Heads.{is_next}
-use Rattle.fsl_parse.specs.ReadDeclarations.{read_next_parameter}
-use Rattle.fsl_parse.proofs.Turns.{Going}
+use Rattle.fsl_grammar.specs.Heads.{is_next}
+use Rattle.fsl_grammar.specs.ReadDeclarations.{read_next_parameter}
+use Rattle.fsl_grammar.proofs.Turns.{Going}
 use Rattle.fsl_parse.proofs.parser.Parser.more_parameters.Given as goal
 
 abbrev pub invariant-parameters : goal.invariant-parameters

@@ -1,8 +1,8 @@
 use Rattle.std.proofs.Common.{◌≡◌, ◌∙◌, sym, refl}
 use Rattle.fsl_token.specs.declared.kind.TokenKind.TheVariants as kind
-use Rattle.fsl_parse.specs.Heads.{is_next}
-use Rattle.fsl_parse.specs.ReadAssertions.{read_part}
-use Rattle.fsl_parse.proofs.Turns.{going_stop, going_failed}
+use Rattle.fsl_grammar.specs.Heads.{is_next}
+use Rattle.fsl_grammar.specs.ReadAssertions.{read_part}
+use Rattle.fsl_grammar.proofs.Turns.{going_stop, going_failed}
 use Rattle.fsl_parse.proofs.parser.Parser.more_parts.Goals as goal
 
 pub returns-in_err-part-clause-agrees : goal.returns-in_err-part-clause-agrees

@@ -1,6 +1,6 @@
 use Rattle.std.proofs.Common.{◌≡◌, ◌∙◌, sym, refl}
-use Rattle.fsl_parse.specs.ReadStatements.{is_step_next, read_step_line}
-use Rattle.fsl_parse.proofs.Turns.{going_stop, going_failed}
+use Rattle.fsl_grammar.specs.ReadStatements.{is_step_next, read_step_line}
+use Rattle.fsl_grammar.proofs.Turns.{going_stop, going_failed}
 use Rattle.fsl_parse.proofs.parser.Parser.step_lines.Goals as goal
 
 pub returns-in_err-step_line-clause-agrees : goal.returns-in_err-step_line-clause-agrees

@@ -1,6 +1,6 @@
 use Rattle.std.proofs.Common.{◌≤◌, length}
-use Rattle.fsl_parse.specs.ReadStatements.{is_step_next, read_step_line}
-use Rattle.fsl_parse.proofs.Turns.{Going}
+use Rattle.fsl_grammar.specs.ReadStatements.{is_step_next, read_step_line}
+use Rattle.fsl_grammar.proofs.Turns.{Going}
 use Rattle.fsl_parse.proofs.parser.Parser.step_lines.Given as goal
 
 abbrev pub invariant-steps : goal.invariant-steps
