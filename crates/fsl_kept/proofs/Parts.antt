@@ -35,7 +35,7 @@ each_piece : (n : ℕ) (v : Numbers) (slots : ℕ) (ts : List Combination) (xs :
 each_piece n v slots ts xs [] h = tt
 each_piece n v slots ts xs (a ∷ items) h = (refl, all_padded slots h, each_piece n v slots ts xs items h)
 
-abbrev read_inv : Inv → Invariant
+abbrev pub read_inv : Inv → Invariant
 read_inv inv = record { slots = inv.slots; parts = map asrt_of inv.parts }
 
 pieces_are : (n : ℕ) (v : Numbers) (invs : List Inv) (i : ℕ) (args : List Combination) (t : Combination) (xs : List ℤ) (x : ℤ) → AllMean n v (args ++ t ∷ []) (xs ++ x ∷ [])

@@ -1,3 +1,4 @@
+pub mod Atomics
 pub mod Calls
 pub mod Changes
 pub mod Laws
