@@ -5,3 +5,5 @@ pub mod Calls
 pub mod Parts
 pub mod Atomics
 pub mod Loads
+pub mod Gaining
+pub mod Threads

@@ -51,7 +51,7 @@ use Rattle.fsl_kept.proofs.Parts.{parts_are}
 
 -- ---- values that were read
 
-any_false : (x : ℤ) (xs ys : List ℤ) → all_in xs ys ≡ true → (b : Bool) → list_any (int_eq x) xs ≡ b → list_any (int_eq x) ys ≡ false → b ≡ false
+pub any_false : (x : ℤ) (xs ys : List ℤ) → all_in xs ys ≡ true → (b : Bool) → list_any (int_eq x) xs ≡ b → list_any (int_eq x) ys ≡ false → b ≡ false
 any_false x xs ys h false e k = refl
 any_false x [] ys h true e k = absurd (let d : false ≡ true = e in cc)
 any_false x (z ∷ zs) ys h true e k =
@@ -75,7 +75,7 @@ excluded_by {s = s} true c d rest e fit l = lands_give true s (or_true c d (sym 
 excluded_by false c d rest e fit l = lands_as l (λ f t w r a. (a.0 ∙ or_false c d (sym e), a.1))
 
 -- whether y is one of those that are excluded
-lands_excluded : {slots : List ℤ} {own : Owning} {v : Numbers} {s : State} {y : ℤ} (x : Combination) (ts : List Combination) (xs : List ℤ) → Fits slots own v s → Means s.next v x y → AllMean s.next v ts xs
+pub lands_excluded : {slots : List ℤ} {own : Owning} {v : Numbers} {s : State} {y : ℤ} (x : Combination) (ts : List Combination) (xs : List ℤ) → Fits slots own v s → Means s.next v x y → AllMean s.next v ts xs
     → Lands s.next v (λ b t w. (b ≡ list_any (int_eq y) xs) × Fits slots own w t) (is_excluded x ts s)
 lands_excluded {s = s} x [] [] fit h all = lands_give false s (refl, fit)
 lands_excluded x [] (z ∷ zs) fit h all = absurd all.each
@@ -92,18 +92,18 @@ pub record IsPlaced {C : Type 0} (cs : List C) (place : ℕ) (c : C) : Type 0 wh
   pub list : cs ≡ before ++ c ∷ behind
   pub long : length before ≡ place
 
-placed_is : {C : Type 0} (cs : List C) (place : ℕ) (c : C) → slice_get cs place ≡ Some c → IsPlaced cs place c
+pub placed_is : {C : Type 0} (cs : List C) (place : ℕ) (c : C) → slice_get cs place ≡ Some c → IsPlaced cs place c
 placed_is [] place c h = absurd (let d : None ≡ Some c = h in cc)
 placed_is (b ∷ bs) zero c h = let e : Some b ≡ Some c = h in record { before = []; behind = bs; list = ap (λ (z : _). z ∷ bs) (some_is e); long = refl }
 placed_is {C = C} (b ∷ bs) (suc place) c h =
     let p = placed_is bs place c h in
     record { before = b ∷ p.before; behind = p.behind; list = ap (λ (zs : List C). b ∷ zs) p.list; long = ap suc p.long }
 
-set_between : {C : Type 0} (before behind : List C) (c d : C) → slice_set (before ++ c ∷ behind) (length before) d ≡ before ++ d ∷ behind
+pub set_between : {C : Type 0} (before behind : List C) (c d : C) → slice_set (before ++ c ∷ behind) (length before) d ≡ before ++ d ∷ behind
 set_between [] behind c d = refl
 set_between {C = C} (b ∷ bs) behind c d = ap (λ (zs : List C). b ∷ zs) (set_between bs behind c d)
 
-permission_read : (at : Combination) (facts : List Fact) (c : Chunk) (x : Permission) → permission_at at facts c ≡ Some x → (c ≡ acq_chunk x) × (proves_equal facts x.leave.at at ≡ true)
+pub permission_read : (at : Combination) (facts : List Fact) (c : Chunk) (x : Permission) → permission_at at facts c ≡ Some x → (c ≡ acq_chunk x) × (proves_equal facts x.leave.at at ≡ true)
 permission_read at facts (chunk.Points r a share value) x h = nothing_read _ x h
 permission_read at facts (chunk.Init r a) x h = nothing_read _ x h
 permission_read at facts (chunk.Rel a inv args) x h = nothing_read _ x h
@@ -123,7 +123,7 @@ line_pool n r p m e = omega arith
 line_swap : (n m r p : ℕ) → n + r ≡ p → n + (m + r) ≡ m + p
 line_swap n m r p e = omega arith
 
-pooled_out : (os : Pool) (q : ℕ) (n : Need) → slice_get os q ≡ Some (Some n) → (k : Key) → n.heap k + pooled (slice_set os q None) k ≡ pooled os k
+pub pooled_out : (os : Pool) (q : ℕ) (n : Need) → slice_get os q ≡ Some (Some n) → (k : Key) → n.heap k + pooled (slice_set os q None) k ≡ pooled os k
 pooled_out [] q n e k = absurd (let d : None ≡ Some (Some n) = e in cc)
 pooled_out (o ∷ os) zero n e k = let same : o ≡ Some n = some_is e in sym (ap (λ (z : Option Need). pooled (z ∷ os) k) same)
 pooled_out (None ∷ os) (suc q) n e k = pooled_out os q n e k
@@ -152,7 +152,7 @@ marked_by : (t : Truth) (loc l y : ℤ) (q p : ℕ) (b : Bool) → (int_eq l loc
 marked_by t loc l y q p true e h = let a = and_parts (int_eq l loc) (p == q) e in absurd (h (equal l loc a.0, eqb-true p q a.1))
 marked_by t loc l y q p false e h = if_other (int_eq l loc && p == q) (y ∷ t.out l p) (t.out l p) e
 
-marked_agrees : (t : Truth) (h : Heap) (loc y : ℤ) (q : ℕ) → (1 ≤ h (key.Permission loc q) → ⊥) → Agrees t (marking loc q y t) h
+pub marked_agrees : (t : Truth) (h : Heap) (loc y : ℤ) (q : ℕ) → (1 ≤ h (key.Permission loc q) → ⊥) → Agrees t (marking loc q y t) h
 marked_agrees t h loc y q none = record {
   value = λ r l x some e. e;
   out = λ l p some. marked_by t loc l y q p (int_eq l loc && p == q) refl (λ same. none (subst (λ (k : Key). 1 ≤ h k) (λ i. key.Permission (same.0 i) (same.1 i)) some));
@@ -162,10 +162,10 @@ marked_agrees t h loc y q none = record {
 eqb_self : (n : ℕ) → (n == n) ≡ true
 eqb_self n = grind arith
 
-marked_is : (t : Truth) (loc y : ℤ) (q : ℕ) → (marking loc q y t).out loc q ≡ y ∷ t.out loc q
+pub marked_is : (t : Truth) (loc y : ℤ) (q : ℕ) → (marking loc q y t).out loc q ≡ y ∷ t.out loc q
 marked_is t loc y q = if_same (int_eq loc loc && q == q) (y ∷ t.out loc q) (t.out loc q) (and_from (int_eq loc loc) (q == q) (is_equal loc loc refl) (eqb_self q))
 
-any_last : (y : ℤ) (xs : List ℤ) → list_any (int_eq y) (xs ++ y ∷ []) ≡ true
+pub any_last : (y : ℤ) (xs : List ℤ) → list_any (int_eq y) (xs ++ y ∷ []) ≡ true
 any_last y [] = or_left (int_eq y y) false (is_equal y y refl)
 any_last y (x ∷ xs) = or_right (int_eq y x) (list_any (int_eq y) (xs ++ y ∷ [])) (any_last y xs)
 
@@ -176,7 +176,7 @@ any_more x y (z ∷ zs) h = elim (or_cases (int_eq x z) (list_any (int_eq x) zs)
   | inr j ↦ or_right (int_eq x z) (list_any (int_eq x) (zs ++ y ∷ [])) (any_more x y zs j)
 ]
 
-in_more : (y : ℤ) (xs ys : List ℤ) → all_in xs ys ≡ true → all_in xs (ys ++ y ∷ []) ≡ true
+pub in_more : (y : ℤ) (xs ys : List ℤ) → all_in xs ys ≡ true → all_in xs (ys ++ y ∷ []) ≡ true
 in_more y [] ys h = refl
 in_more y (x ∷ xs) ys h =
     let p = and_parts (list_any (int_eq x) ys) (all_in xs ys) h in
@@ -184,30 +184,23 @@ in_more y (x ∷ xs) ys h =
 
 -- ---- a permission gains
 
-line_one : (m r h p a : ℕ) → 1 ≤ m → m + r ≤ h → h + p ≤ a → a ≤ 1 → 1 ≤ r → ⊥
+pub line_one : (m r h p a : ℕ) → 1 ≤ m → m + r ≤ h → h + p ≤ a → a ≤ 1 → 1 ≤ r → ⊥
 line_one m r h p a i j k l n = omega arith
 
-line_pooled : (m r h n o p a : ℕ) → 1 ≤ m → m + r ≤ h → n + o ≡ p → h + p ≤ a → a ≤ 1 → 1 ≤ n → ⊥
+pub line_pooled : (m r h n o p a : ℕ) → 1 ≤ m → m + r ≤ h → n + o ≡ p → h + p ≤ a → a ≤ 1 → 1 ≤ n → ⊥
 line_pooled m r h n o p a i j e k l q = omega arith
 
-line_mine : (m r h p a : ℕ) → 1 ≤ m → m + r ≤ h → h + p ≤ a → 1 ≤ a
+pub line_mine : (m r h p a : ℕ) → 1 ≤ m → m + r ≤ h → h + p ≤ a → 1 ≤ a
 line_mine m r h p a i j k = omega arith
 
-line_grown : (n o p h a : ℕ) → n + o ≡ p → h + p ≤ a → (n + h) + o ≤ a
+pub line_grown : (n o p h a : ℕ) → n + o ≡ p → h + p ≤ a → (n + h) + o ≤ a
 line_grown n o p h a e l = omega arith
 
-line_mid : (n o p h a : ℕ) → n + o ≡ p → h + p ≤ a → n + h ≤ a
+pub line_mid : (n o p h a : ℕ) → n + o ≡ p → h + p ≤ a → n + h ≤ a
 line_mid n o p h a e l = omega arith
 
-line_self : (a : ℕ) → a ≤ a
+pub line_self : (a : ℕ) → a ≤ a
 line_self a = omega arith
-
--- nobody else has the permission, and the pool hasn't it
-pub record IsAlone (loc : ℤ) (q : ℕ) (mine rest h : Heap) (os : Pool) (more : Heap) : Type 0 where
-  pub there : 1 ≤ mine (key.Permission loc q)
-  pub holds : Holds mine rest h
-  pub within : Holds h (pooled os) more
-  pub once : more (key.Permission loc q) ≤ 1
 
 ready_by : (g : Ground) (rung : Rung) (loc y : ℤ) (parts : List Part) (os : Pool) (more : Heap) (q p : ℕ) → ((n : Need) (r : ℕ) → slice_get os r ≡ Some (Some n) → 1 ≤ n.heap (key.Permission loc q) → ⊥)
     → AllReady g rung loc y parts os more → 1 ≤ more (key.Permission loc p) → list_any (int_eq y) ((marking loc q y g.truth).out loc p) ≡ false → (p ≡ q) ⊎ (p ≡ q → ⊥)
@@ -230,19 +223,19 @@ ready_by g rung loc y parts os more q p none all some fresh (inr d) =
       known = r.known;
     }
 
-ready_kept : (g : Ground) (rung : Rung) (loc y : ℤ) (parts : List Part) (os : Pool) (more : Heap) (q : ℕ) → ((n : Need) (r : ℕ) → slice_get os r ≡ Some (Some n) → 1 ≤ n.heap (key.Permission loc q) → ⊥)
+pub ready_kept : (g : Ground) (rung : Rung) (loc y : ℤ) (parts : List Part) (os : Pool) (more : Heap) (q : ℕ) → ((n : Need) (r : ℕ) → slice_get os r ≡ Some (Some n) → 1 ≤ n.heap (key.Permission loc q) → ⊥)
     → AllReady g rung loc y parts os more → AllReady (grounded g (marking loc q y g.truth)) rung loc y parts (slice_set os q None) more
 ready_kept g rung loc y parts os more q none all = record { ready = λ p some fresh. ready_by g rung loc y parts os more q p none all some fresh (cases_eq p q) }
 
-marked_bounds : (t : Truth) (h : Heap) (loc y : ℤ) (q : ℕ) → IsBounded t h → IsBounded (marking loc q y t) h
+pub marked_bounds : (t : Truth) (h : Heap) (loc y : ℤ) (q : ℕ) → IsBounded t h → IsBounded (marking loc q y t) h
 marked_bounds t h loc y q b = record { cells = b.cells; tokens = b.tokens; alone = b.alone; once = b.once }
 
 -- nothing is gained
-gained_none : {g : Ground} {slots : List ℤ} {loc y : ℤ} {os : Pool} {more h : Heap} {s : State} {w : Numbers} → Fits slots (All g h) w s → Holds h (pooled os) more → Gained g slots loc y os more s w
+pub gained_none : {g : Ground} {slots : List ℤ} {loc y : ℤ} {os : Pool} {more h : Heap} {s : State} {w : Numbers} → Fits slots (All g h) w s → Holds h (pooled os) more → Gained g slots loc y os more s w
 gained_none {h = h} fit within = record { taken = []; were = tt; grown = h; within = within; fits = fit }
 
 -- the piece of a part, produced
-part_lands : {g : Ground} {slots : List ℤ} {v : Numbers} {s : State} {h : Heap} (rung : Rung) (xs : List Piece) (ps : List Part) (q : ℕ) (p : Part) (n : Need) (more : Heap) → Fits slots (All g h) v s
+pub part_lands : {g : Ground} {slots : List ℤ} {v : Numbers} {s : State} {h : Heap} (rung : Rung) (xs : List Piece) (ps : List Part) (q : ℕ) (p : Part) (n : Need) (more : Heap) → Fits slots (All g h) v s
     → ArePieces s.next v xs ps → slice_get ps q ≡ Some p → asks g.truth p.asrt rung p.numbers ≡ Some n → AllKnown g n.claims → Holds n.heap h more → IsBounded g.truth more
     → Lands s.next v (λ u t w. Fits slots (All g more) w t) (produce_part rung (slice_get xs q) s)
 part_lands {g = g} {slots = slots} {v = v} {s = s} {h = h} rung xs ps q p n more fit are is asked known holds bounds =

@@ -4,3 +4,4 @@ pub mod Changes
 pub mod Laws
 pub mod Parts
 pub mod Results
+pub mod Threads
