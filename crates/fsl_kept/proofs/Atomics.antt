@@ -1,8 +1,7 @@
 -- Allocations of atomic locations, and atomic stores.
-use Rattle.std.proofs.Common.{◌≡◌, ℕ, zero, suc, ◌+◌, ◌≤◌, Bool, true, false, List, [], ◌∷◌, ◌++◌, length, map, Option, Some, None, ℤ, pos, ◌+ℤ◌, ◌≤ℤ◌, slice_get, refl, ap, sym, subst, ◌∙◌, arith}
+use Rattle.std.proofs.Common.{◌≡◌, ℕ, zero, suc, ◌+◌, ◌≤◌, Bool, true, false, List, [], ◌∷◌, length, map, ℤ, pos, ◌+ℤ◌, ◌≤ℤ◌, slice_get, refl, ap, sym, subst, arith}
 use Rattle.std.specs.Prelude.{slice_set}
 use Rattle.fsl_core.specs.declared.assertion.Inst.{Inst}
-use Rattle.fsl_core.specs.declared.assertion.Asrt.{Asrt}
 use Rattle.fsl_core.specs.declared.chunk.Chunk.{Chunk}
 use Rattle.fsl_core.specs.declared.chunk.Chunk.TheVariants as chunk
 use Rattle.fsl_core.specs.declared.declaration.Inv.{Inv}
@@ -35,9 +34,9 @@ use Rattle.fsl_asserted.proofs.Asking.{some_there}
 use Rattle.fsl_asserted.proofs.Producing.{more_of}
 use Rattle.fsl_asserted.proofs.Terms.{reads_term, reads_terms}
 use Rattle.fsl_kept.specs.Atomics.{count_by, permissions_from, leave_heap, leave_claim, StoresAtomic}
-use Rattle.fsl_kept.specs.Parts.{parts_in, parts_asked}
+use Rattle.fsl_kept.specs.Parts.{parts_in}
 use Rattle.fsl_kept.proofs.Locals.{lands_set, lands_address}
-use Rattle.fsl_kept.proofs.Parts.{read_inv, parts_are, GivesParts, parts_consumed}
+use Rattle.fsl_kept.proofs.Parts.{read_inv, parts_are, parts_consumed}
 
 -- ---- allocations
 

@@ -20,15 +20,15 @@ use Rattle.fsl_core.specs.logic.Locations.{setting_of, parts_at}
 use Rattle.fsl_core.specs.logic.Accesses.{gaining, permission_at, permission_in, permissions, gain, gain_by, gain_each, load_atomic}
 use Rattle.fsl_lin.specs.Combination.{Combination}
 use Rattle.fsl_lin.specs.Numbers.{Numbers}
-use Rattle.fsl_meaning.specs.Means.{Means, Grows}
-use Rattle.fsl_meaning.specs.Heaps.{Key, Key as key, Heap, Holds, Truth, Claim as claim, Ground, IsBounded, all_in}
+use Rattle.fsl_meaning.specs.Means.{Means}
+use Rattle.fsl_meaning.specs.Heaps.{Key as key, Heap, Holds, Claim as claim, Ground, IsBounded, all_in}
 use Rattle.fsl_meaning.specs.States.{OwnsPermission, KnowsInit, Stands, EachStands, Owns, All, Opened, Fits}
 use Rattle.fsl_meaning.specs.Branches.{Lands}
 use Rattle.fsl_meaning.proofs.Terms.{means_more, all_more, all_append, all_one, all_none}
 use Rattle.fsl_meaning.proofs.Calculus.{lands_then, lands_give, lands_as, lands_end, tells_then}
 use Rattle.fsl_meaning.proofs.Facts.{proved_equal, lands_symbol}
 use Rattle.fsl_meaning.proofs.Kept.{owns_kept}
-use Rattle.fsl_meaning.proofs.Owned.{all_lasts, IsPulled, pull, insert, stands_more, tells_find_or, fits_back}
+use Rattle.fsl_meaning.proofs.Owned.{all_lasts, pull, insert, tells_find_or, fits_back}
 use Rattle.fsl_meaning.proofs.Readings.{acq_chunk, init_read}
 use Rattle.fsl_meaning.proofs.Joining.{bounded_less}
 use Rattle.fsl_asserted.specs.Exact.{exact}
@@ -38,10 +38,10 @@ use Rattle.fsl_asserted.proofs.Stays.{asks_stay}
 use Rattle.fsl_asserted.proofs.Terms.{reads_term}
 use Rattle.fsl_kept.specs.Changes.{grounded}
 use Rattle.fsl_kept.specs.Parts.{Part, parts_in, ArePieces}
-use Rattle.fsl_kept.specs.Atomics.{marking, Pool, pooled, IsReady, AllReady, Gained, HasInv, LoadsAtomic}
+use Rattle.fsl_kept.specs.Atomics.{marking, Pool, pooled, AllReady, Gained, HasInv, LoadsAtomic}
 use Rattle.fsl_kept.proofs.Locals.{lands_set, knows_same}
 use Rattle.fsl_kept.proofs.Parts.{parts_are}
-use Rattle.fsl_kept.proofs.Loads.{any_false, lands_excluded, IsPlaced, placed_is, set_between, permission_read, pooled_out, marked_agrees, marked_is, any_last, in_more, line_one, line_pooled, line_mine, line_grown, line_mid, line_self, ready_kept, marked_bounds, gained_none, part_lands}
+use Rattle.fsl_kept.proofs.Loads.{any_false, lands_excluded, placed_is, set_between, permission_read, pooled_out, marked_agrees, marked_is, any_last, in_more, line_one, line_pooled, line_mine, line_grown, line_mid, line_self, ready_kept, marked_bounds, gained_none, part_lands}
 
 -- a permission gains nothing, or its part
 data Step (g : Ground) (slots : List ℤ) (rung : Rung) (loc y : ℤ) (parts : List Part) (os : Pool) (h more : Heap) (s : State) (w : Numbers) : Type 0 where
@@ -71,7 +71,7 @@ gain_after {g = g} {slots = slots} {v = v} {s = s} {h = h} {mine = mine} {rest =
     let later = grounded g (marking loc q y g.truth) in
     let none_rest : 1 ≤ rest one → ⊥ = line_one (mine one) (rest one) (h one) (pooled os one) (more one) there (holds one) (within one) (bounds.once loc q) in
     let none_in : (m : Need) (z : ℕ) → slice_get os z ≡ Some (Some m) → 1 ≤ m.heap one → ⊥ = λ m z i.
-      line_pooled (mine one) (rest one) (h one) (m.heap one) (pooled (slice_set os z None) one) (pooled os one) (more one) there (holds one) (pooled_out os z m i one) (within one) (bounds.once loc q) in
+    line_pooled (mine one) (rest one) (h one) (m.heap one) (pooled (slice_set os z None) one) (pooled os one) (more one) there (holds one) (pooled_out os z m i one) (within one) (bounds.once loc q) in
     let new : Chunk = chunk.Acq x.leave.at x.leave.inv x.leave.args q (x.out ++ d ∷ []) in
     let stands : OwnsPermission later s.next v x.leave.at x.leave.inv x.leave.args q (x.out ++ d ∷ []) mine = record {
       loc = loc;
@@ -82,12 +82,12 @@ gain_after {g = g} {slots = slots} {v = v} {s = s} {h = h} {mine = mine} {rest =
       out_are = all_append own.out_are (all_one d_is all_none);
       known = known;
       within = subst (λ (zs : List ℤ). all_in zs (own.excluded ++ y ∷ []) ≡ true) (sym (marked_is g.truth loc y q))
-        (and_from (list_any (int_eq y) (own.excluded ++ y ∷ [])) (all_in (g.truth.out loc q) (own.excluded ++ y ∷ [])) (any_last y own.excluded) (in_more y (g.truth.out loc q) own.excluded excludes));
+          (and_from (list_any (int_eq y) (own.excluded ++ y ∷ [])) (all_in (g.truth.out loc q) (own.excluded ++ y ∷ [])) (any_last y own.excluded) (in_more y (g.truth.out loc q) own.excluded excludes));
       there = there;
     } in
     let others : Owns later s.next v (before ++ behind) rest = owns_kept later (knows_same g (marking loc q y g.truth) rest) (marked_agrees g.truth rest loc y q none_rest) fit.owns.others in
     let listed : slice_set s.chunks place new ≡ before ++ new ∷ behind =
-      ap (λ (cs : List Chunk). slice_set cs place new) fit.owns.list ∙ ap (λ (i : ℕ). slice_set (before ++ acq_chunk x ∷ behind) i new) (sym long) ∙ set_between before behind (acq_chunk x) new in
+    ap (λ (cs : List Chunk). slice_set cs place new) fit.owns.list ∙ ap (λ (i : ℕ). slice_set (before ++ acq_chunk x ∷ behind) i new) (sym long) ∙ set_between before behind (acq_chunk x) new in
     let changed : State = record s { chunks = slice_set s.chunks place new } in
     let fits : Fits slots (All later h) v changed = record {
       one = fit.one;
@@ -96,7 +96,7 @@ gain_after {g = g} {slots = slots} {v = v} {s = s} {h = h} {mine = mine} {rest =
       owns = record { each = subst (λ (cs : List Chunk). EachStands later s.next v cs h) (sym listed) (insert later s.next v before new behind mine rest h holds stands others.each) };
     } in
     let are : ArePieces s.next v (parts_at (setting_of asrt_of p) x.leave d) (parts_in p inv xs y) =
-      subst (λ (ps : List Part). ArePieces s.next v (parts_at (setting_of asrt_of p) x.leave d) ps) (λ i. parts_in p (only.0 i) (only.1 i) y) (parts_are p x.leave own.args_are d_is) in
+    subst (λ (ps : List Part). ArePieces s.next v (parts_at (setting_of asrt_of p) x.leave d) ps) (λ i. parts_in p (only.0 i) (only.1 i) y) (parts_are p x.leave own.args_are d_is) in
     let asked = asks_stay g.truth (marking loc q y g.truth) r.part.asrt rung r.part.numbers n r.asked (marked_agrees g.truth n.heap loc y q (none_in n q r.there)) in
     let mid : Heap = λ k. n.heap k + h k in
     let room = marked_bounds g.truth mid loc y q (bounded_less mid (λ k. line_mid (n.heap k) (pooled (slice_set os q None) k) (pooled os k) (h k) (more k) (out k) (within k)) bounds) in
@@ -117,7 +117,7 @@ gain_at {g = g} {slots = slots} {v = v} {s = s} {h = h} {loc = loc} {y = y} p ru
     let own : OwnsPermission g s.next v x.leave.at x.leave.inv x.leave.args x.part x.out o.mine = o.stands in
     let loc_is : own.loc ≡ loc = proved_equal fit.one fit.facts own.at_is a_is r.1 in
     let opened : Fits slots (Opened g l.before (acq_chunk x) l.behind o.mine o.rest) v s =
-      record { one = fit.one; facts = fit.facts; env = fit.env; owns = record { list = list; stands = o.stands; others = record { each = o.each } } } in
+    record { one = fit.one; facts = fit.facts; env = fit.env; owns = record { list = list; stands = o.stands; others = record { each = o.each } } } in
     lands_then (lands_excluded d x.out own.excluded opened d_is own.out_are) (λ b t w k f.
     let later : OwnsPermission g t.next w x.leave.at x.leave.inv x.leave.args x.part x.out o.mine = record {
       loc = own.loc;

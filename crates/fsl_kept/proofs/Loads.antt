@@ -1,53 +1,39 @@
 -- Atomic loads: each permission for the location gains its part of the message's, unless the value was read before.
-use Rattle.std.proofs.Common.{◌≡◌, ◌⊎◌, inl, inr, ℕ, zero, suc, ◌+◌, ◌≤◌, ◌==◌, Bool, true, false, ◌&&◌, ◌||◌, List, [], ◌∷◌, ◌++◌, length, Option, Some, None, ℤ, pos, slice_get, if◌then◌else◌, refl, ap, sym, subst, ◌∙◌, eqb, add-one, arith}
+use Rattle.std.proofs.Common.{◌≡◌, ◌⊎◌, inl, inr, ℕ, zero, suc, ◌+◌, ◌≤◌, ◌==◌, Bool, true, false, ◌&&◌, ◌||◌, List, [], ◌∷◌, ◌++◌, length, Option, Some, None, ℤ, slice_get, refl, ap, sym, subst, ◌∙◌, arith}
 use Rattle.std.specs.Ordering.{int_eq}
-use Rattle.std.specs.List.{list_any, list_all}
+use Rattle.std.specs.List.{list_any}
 use Rattle.std.specs.Prelude.{slice_set}
 use Rattle.std.proofs.lemmas.Bool.{and_parts, and_from, or_left, or_right, or_cases, eqb-true, cases_eq}
 use Rattle.fsl_core.specs.declared.chunk.Chunk.{Chunk}
 use Rattle.fsl_core.specs.declared.chunk.Chunk.TheVariants as chunk
-use Rattle.fsl_core.specs.declared.expr.Expr.{Expr}
-use Rattle.fsl_core.specs.declared.mode.Mode.{Mode}
 use Rattle.fsl_core.specs.declared.mode.Rung.{Rung}
-use Rattle.fsl_core.specs.declared.mode.Rung.TheVariants.{Plain}
-use Rattle.fsl_core.specs.declared.verdict.Kind.TheVariants as kind
-use Rattle.fsl_core.specs.Programs.{Program}
-use Rattle.fsl_core.specs.Values.{with_value}
-use Rattle.fsl_core.specs.logic.States.{State, Branches, give, look}
-use Rattle.fsl_core.specs.logic.Terms.{expr_of}
-use Rattle.fsl_core.specs.logic.Deciding.{proves_equal, decide_equal}
+use Rattle.fsl_core.specs.logic.States.{State, Branches, give}
+use Rattle.fsl_core.specs.logic.Deciding.{proves_equal}
 use Rattle.fsl_core.specs.logic.Assertions.{Assertion, asrt_of}
-use Rattle.fsl_core.specs.logic.Chunks.{Leave, leave, Permission, when, init_at}
+use Rattle.fsl_core.specs.logic.Chunks.{leave, Permission}
 use Rattle.fsl_core.specs.logic.Producing.{chosen}
-use Rattle.fsl_core.specs.logic.Locations.{setting_of, Piece, parts_at, part_at, produce_part}
-use Rattle.fsl_core.specs.logic.Accesses.{gaining, permission_at, permission_in, permissions, is_excluded, gain, gain_by, gain_each, load_atomic}
+use Rattle.fsl_core.specs.logic.Locations.{Piece, produce_part}
+use Rattle.fsl_core.specs.logic.Accesses.{permission_at, is_excluded}
 use Rattle.fsl_lin.specs.Combination.{Combination}
 use Rattle.fsl_lin.specs.Numbers.{Numbers}
 use Rattle.fsl_lin.specs.declared.fact.Fact.{Fact}
-use Rattle.fsl_meaning.specs.Means.{Means, EachMeans, AllMean, Grows}
-use Rattle.fsl_meaning.specs.Heaps.{Key, Key as key, Heap, nothing, Holds, Truth, Claim as claim, Ground, Knows, AllKnown, IsBounded, Agrees, all_in}
-use Rattle.fsl_meaning.specs.States.{OwnsPermission, KnowsInit, Stands, EachStands, Owns, Owning, All, IsOpened, Opened, Fits}
-use Rattle.fsl_meaning.specs.Branches.{Lands, Tells}
-use Rattle.fsl_meaning.proofs.Terms.{means_more, all_more, all_append, all_one, all_none, all_head, all_tail}
-use Rattle.fsl_meaning.proofs.Calculus.{lands_then, lands_give, lands_as, lands_end, tells_then}
-use Rattle.fsl_meaning.proofs.Facts.{proved_equal, lands_symbol}
+use Rattle.fsl_meaning.specs.Means.{Means, AllMean}
+use Rattle.fsl_meaning.specs.Heaps.{Key, Key as key, Heap, Holds, Truth, Ground, AllKnown, IsBounded, Agrees, all_in}
+use Rattle.fsl_meaning.specs.States.{Owning, All, Fits}
+use Rattle.fsl_meaning.specs.Branches.{Lands}
+use Rattle.fsl_meaning.proofs.Terms.{means_more, all_more, all_head, all_tail}
+use Rattle.fsl_meaning.proofs.Calculus.{lands_then, lands_give, lands_as, lands_end}
 use Rattle.fsl_meaning.proofs.Deciding.{equal, is_equal, picked_equal, lands_sides}
-use Rattle.fsl_meaning.proofs.Kept.{owns_kept}
-use Rattle.fsl_meaning.proofs.Owned.{all_lasts, pull, insert, stands_more, tells_find_or, fits_back}
-use Rattle.fsl_meaning.proofs.Readings.{when_is, nothing_read, acq_chunk, init_read}
-use Rattle.fsl_meaning.proofs.Joining.{bounded_less}
-use Rattle.fsl_asserted.specs.Exact.{exact}
+use Rattle.fsl_meaning.proofs.Readings.{when_is, nothing_read, acq_chunk}
 use Rattle.fsl_asserted.specs.Needs.{Need, asks}
 use Rattle.fsl_asserted.specs.Fitting.{Gains}
-use Rattle.fsl_asserted.proofs.Asking.{some_is, value_asked, part_within}
+use Rattle.fsl_asserted.proofs.Asking.{some_is}
 use Rattle.fsl_asserted.proofs.Stays.{asks_stay}
-use Rattle.fsl_asserted.proofs.Terms.{reads_term}
 use Rattle.fsl_asserted.proofs.Trees.{produce_fits}
 use Rattle.fsl_kept.specs.Changes.{grounded}
-use Rattle.fsl_kept.specs.Parts.{Part, parts_in, EachPiece, ArePieces}
-use Rattle.fsl_kept.specs.Atomics.{marking, marking_all, Pool, pooled, left_all, AllTaken, IsReady, AllReady, Gained, HasInv, LoadsAtomic}
-use Rattle.fsl_kept.proofs.Locals.{if_other, if_same, knows_same}
-use Rattle.fsl_kept.proofs.Parts.{parts_are}
+use Rattle.fsl_kept.specs.Parts.{Part, EachPiece, ArePieces}
+use Rattle.fsl_kept.specs.Atomics.{marking, Pool, pooled, IsReady, AllReady, Gained}
+use Rattle.fsl_kept.proofs.Locals.{if_other, if_same}
 
 -- ---- values that were read
 
@@ -241,7 +227,7 @@ pub part_lands : {g : Ground} {slots : List ℤ} {v : Numbers} {s : State} {h : 
 part_lands {g = g} {slots = slots} {v = v} {s = s} {h = h} rung xs ps q p n more fit are is asked known holds bounds =
     let x = piece_at s.next v xs ps q p are.each is in
     let produced : Lands s.next v (Gains g slots more n.env) (x.0.asrt.produce rung x.0.env s) =
-      subst (λ (a : Assertion). Lands s.next v (Gains g slots more n.env) (a.produce rung x.0.env s)) (sym x.2)
-      (produce_fits g p.asrt rung n h more slots v s x.0.env p.numbers fit x.3 asked known holds bounds) in
+    subst (λ (a : Assertion). Lands s.next v (Gains g slots more n.env) (a.produce rung x.0.env s)) (sym x.2)
+    (produce_fits g p.asrt rung n h more slots v s x.0.env p.numbers fit x.3 asked known holds bounds) in
     subst (λ (o : Option Piece). Lands s.next v (λ u t w. Fits slots (All g more) w t) (produce_part rung o s)) (sym x.1)
     (lands_then produced (λ e t w r gains. lands_give tt t gains.fits))

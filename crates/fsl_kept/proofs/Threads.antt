@@ -1,5 +1,5 @@
 -- Threads that run side by side: started with what they require, joined with what they ensure.
-use Rattle.std.proofs.Common.{◌≡◌, ℕ, zero, suc, ◌+◌, ◌≤◌, List, [], ◌∷◌, ◌++◌, map, Option, Some, None, ℤ, slice_get, refl, ap, sym, subst, ◌∙◌, arith}
+use Rattle.std.proofs.Common.{◌≡◌, ℕ, zero, suc, ◌+◌, ◌≤◌, List, [], ◌∷◌, map, Some, ℤ, slice_get, refl, sym, subst, arith}
 use Rattle.fsl_core.specs.declared.act.Called.{Called}
 use Rattle.fsl_core.specs.declared.declaration.Proc.{Proc}
 use Rattle.fsl_core.specs.declared.mode.Rung.TheVariants.{Plain}
@@ -8,16 +8,16 @@ use Rattle.fsl_core.specs.Programs.{Program}
 use Rattle.fsl_core.specs.logic.States.{Env, State}
 use Rattle.fsl_core.specs.logic.Terms.{expr_of}
 use Rattle.fsl_core.specs.logic.Assertions.{asrt_of}
-use Rattle.fsl_core.specs.logic.Locations.{Contract, contract_of, setting_of, padded}
+use Rattle.fsl_core.specs.logic.Locations.{Contract, contract_of, setting_of}
 use Rattle.fsl_core.specs.logic.Calls.{Running, running, call_of, with_args, start_each, join_each, gain_post}
 use Rattle.fsl_lin.specs.Combination.{Combination}
 use Rattle.fsl_lin.specs.Numbers.{Numbers}
 use Rattle.fsl_meaning.specs.Means.{AllMean, Grows}
-use Rattle.fsl_meaning.specs.Heaps.{Key, Heap, Holds, Ground, IsBounded}
+use Rattle.fsl_meaning.specs.Heaps.{Heap, Holds, Ground, IsBounded}
 use Rattle.fsl_meaning.specs.States.{Owning, All, Fits}
 use Rattle.fsl_meaning.specs.Branches.{Lands, Tells}
-use Rattle.fsl_meaning.proofs.Terms.{means_more, all_more}
-use Rattle.fsl_meaning.proofs.Calculus.{lands_then, lands_give, lands_as, tells_on, tells_as, tells_give}
+use Rattle.fsl_meaning.proofs.Terms.{all_more}
+use Rattle.fsl_meaning.proofs.Calculus.{lands_then, lands_give, tells_on, tells_give}
 use Rattle.fsl_meaning.proofs.Facts.{lands_symbol}
 use Rattle.fsl_meaning.proofs.Owned.{all_lasts, fits_less}
 use Rattle.fsl_meaning.proofs.Joining.{bounded_less}
@@ -28,7 +28,7 @@ use Rattle.fsl_asserted.specs.Fitting.{Gives}
 use Rattle.fsl_asserted.proofs.Producing.{more_of}
 use Rattle.fsl_asserted.proofs.Terms.{reads_terms}
 use Rattle.fsl_asserted.proofs.Trees.{consume_fits}
-use Rattle.fsl_kept.specs.Threads.{Started, started_by, started, EachRuns, AllRun, all_needs, EachRequires, with_binders, EachEnsures, Starts}
+use Rattle.fsl_kept.specs.Threads.{Started, started_by, started, EachRuns, AllRun, all_needs, EachEnsures, Starts}
 use Rattle.fsl_kept.proofs.Calls.{gain_post_fits}
 
 -- ---- who is started
@@ -70,8 +70,8 @@ starts_land g (x ∷ xs) [] h fit each = absurd each
 starts_land g {slots = slots} {v = v} {s = s} (x ∷ xs) (p ∷ ps) h fit each =
     let asked = asks g.truth p.proc.pre Plain p.numbers in
     let first : Lands s.next v (Gives g slots asked h) (x.proc.pre.consume mood.Pre Plain x.env s) =
-      subst (λ (q : Contract). Lands s.next v (Gives g slots asked h) (q.pre.consume mood.Pre Plain x.env s)) (sym each.0)
-      (consume_fits g p.proc.pre mood.Pre Plain h slots v s x.env p.numbers fit each.1) in
+    subst (λ (q : Contract). Lands s.next v (Gives g slots asked h) (q.pre.consume mood.Pre Plain x.env s)) (sym each.0)
+    (consume_fits g p.proc.pre mood.Pre Plain h slots v s x.env p.numbers fit each.1) in
     lands_then first (λ e t w r a.
     lands_then (starts_land g xs ps a.left a.fits (each_runs_more s.next t.next v w xs ps r each.2)) (λ rest t2 w2 r2 b.
     lands_give (record { proc = x.proc; env = e } ∷ rest) t2 (record {
@@ -111,7 +111,7 @@ joins_land g {slots = slots} {v = v} {s = s} (x ∷ xs) (p ∷ ps) (r ∷ rs) (n
     let room = bounded_less mid (λ k. line_middle (n.heap k) (all_needs ns k) (h k) (more k) (holds k)) bounds in
     lands_then (lands_symbol r (all_lasts g h) fit) (λ y t w q a.
     lands_then (subst (λ (c : Contract). Lands t.next w (λ u t2 w2. Fits slots (All g mid) w2 t2) (gain_post c x.env (Some y) t)) (sym each.0)
-      (gain_post_fits p.proc x.env p.numbers (Some y) (Some r) n mid a.0 (all_more q each.1) a.1 ensures.0 ensures.1 (λ k. line_self (mid k)) room)) (λ u2 t2 w2 q2 f.
+    (gain_post_fits p.proc x.env p.numbers (Some y) (Some r) n mid a.0 (all_more q each.1) a.1 ensures.0 ensures.1 (λ k. line_self (mid k)) room)) (λ u2 t2 w2 q2 f.
     joins_land g xs ps rs ns mid more f (each_runs_more t.next t2.next w w2 xs ps q2 (each_runs_more s.next t.next v w xs ps q each.2)) ensures.2
     (λ k. line_rest (n.heap k) (all_needs ns k) (h k) (more k) (holds k)) bounds))
 

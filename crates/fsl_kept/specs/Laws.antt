@@ -27,7 +27,7 @@ use Rattle.fsl_core.specs.logic.Paths.{set_to, assert, round, give_inv}
 use Rattle.fsl_lin.specs.Combination.{Combination}
 use Rattle.fsl_lin.specs.Numbers.{Numbers}
 use Rattle.fsl_meaning.specs.Means.{Means, AllMean, padded_numbers}
-use Rattle.fsl_meaning.specs.Heaps.{Key, Cell, Bank, Heap, some_of, less, Holds, IsInit, MayWrite, Ground, Knows, AllKnown, IsBounded, KnowsMore, Agrees}
+use Rattle.fsl_meaning.specs.Heaps.{Cell, Bank, Heap, some_of, less, Holds, IsInit, MayWrite, Ground, Knows, AllKnown, IsBounded, KnowsMore, Agrees}
 use Rattle.fsl_meaning.specs.States.{All, Fits}
 use Rattle.fsl_meaning.specs.Branches.{Lands, Tells}
 use Rattle.fsl_asserted.specs.Exact.{exact, exact_all, exact_cond}
