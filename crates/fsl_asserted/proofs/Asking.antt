@@ -1,14 +1,14 @@
 -- What follows from the steps of asking, and pieces of heaps.
-use Rattle.std.proofs.Common.{◌≡◌, ℕ, zero, suc, ◌+◌, ◌-◌, ◌≤◌, Bool, true, false, ◌||◌, inl, inr, List, [], ◌∷◌, ◌++◌, Option, Some, None, ℤ, pos, negsuc, ◌+ℤ◌, ◌≤ℤ◌, if◌then◌else◌, refl, ap, sym, subst, ◌∙◌, arith}
+use Rattle.std.proofs.Common.{◌≡◌, ℕ, zero, suc, ◌+◌, ◌-◌, ◌≤◌, Bool, true, false, inl, inr, List, [], ◌∷◌, ◌++◌, Option, Some, None, ℤ, pos, negsuc, ◌+ℤ◌, ◌≤ℤ◌, refl, ap, sym, subst, arith}
 use Rattle.std.specs.Ordering.{int_eq}
-use Rattle.std.specs.List.{list_all, list_any}
+use Rattle.std.specs.List.{list_any}
 use Rattle.std.proofs.lemmas.Int.{ints}
 use Rattle.std.proofs.lemmas.Bool.{and_parts, and_from, or_cases}
 use Rattle.fsl_core.specs.Values.{with_value}
 use Rattle.fsl_meaning.specs.Heaps.{Key, Heap, some_of, less, Claim, Ground, AllKnown, all_in}
-use Rattle.fsl_meaning.proofs.Deciding.{equal, is_equal}
+use Rattle.fsl_meaning.proofs.Deciding.{equal}
 use Rattle.fsl_meaning.proofs.Heaps.{some_self, some_less}
-use Rattle.fsl_asserted.specs.Needs.{Need, need, only_if, positive, natural}
+use Rattle.fsl_asserted.specs.Needs.{only_if, positive, natural}
 
 pub some_is : {X : Type 0} {a b : X} → Some a ≡ Some b → a ≡ b
 some_is e = cc

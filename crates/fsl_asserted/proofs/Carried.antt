@@ -1,5 +1,5 @@
 -- What an assertion without modalities asks for at another rung.
-use Rattle.std.proofs.Common.{◌≡◌, ℕ, ◌+◌, ◌≤◌, Bool, true, false, ◌&&◌, List, [], ◌∷◌, ◌++◌, map, Option, Some, None, ℤ, pos, if◌then◌else◌, refl, ap, sym, subst, ◌∙◌, arith}
+use Rattle.std.proofs.Common.{◌≡◌, ℕ, ◌+◌, Bool, true, false, ◌&&◌, List, [], ◌∷◌, ◌++◌, map, Option, Some, None, ℤ, if◌then◌else◌, refl, ap, sym, subst, ◌∙◌, arith}
 use Rattle.std.specs.Ordering.{int_eq}
 use Rattle.std.specs.List.{list_all}
 use Rattle.std.proofs.lemmas.Bool.{and_parts}
@@ -16,7 +16,7 @@ use Rattle.fsl_core.specs.logic.Chunks.{same_rung}
 use Rattle.fsl_meaning.specs.Heaps.{Key, Key as key, Heap, nothing, some_of, Truth, Claim, Claim as claim, all_in}
 use Rattle.fsl_meaning.proofs.Heaps.{same_rung_self}
 use Rattle.fsl_asserted.specs.Exact.{exact, exact_all, exact_cond}
-use Rattle.fsl_asserted.specs.Needs.{Need, need, Asks, only_if, positive, natural, matched, points_asked, claim_asked, acq_asked, bank_number, tok_asked, auth_asked, both_asked, all_asked, asks_step, asks}
+use Rattle.fsl_asserted.specs.Needs.{Need, need, Asks, only_if, positive, natural, matched, points_asked, acq_asked, bank_number, tok_asked, auth_asked, both_asked, all_asked, asks_step, asks}
 use Rattle.fsl_asserted.specs.Carried.{moved, claim_at, carried, AsksCarried}
 use Rattle.fsl_asserted.proofs.Asking.{some_is, value_asked, value_is, if_asked}
 
@@ -127,7 +127,7 @@ all_carry a q f each (y ∷ ys) from to xs n h e =
     let there = both_asked (carried from to i.value) (carried from to j.value) in
     carries from to here n there None (all_asked (map q (map a (y ∷ ys))) to xs) j.then_is
     (value_is (q (a y) to xs) (carried from to i.value) _ (each y from to xs i.value p.0 i.is)
-      ∙ value_is (all_asked (map q (map a ys)) to i.value.env) (carried from to j.value) _ (all_carry a q f each ys from to i.value.env j.value p.1 j.is))
+    ∙ value_is (all_asked (map q (map a ys)) to i.value.env) (carried from to j.value) _ (all_carry a q f each ys from to i.value.env j.value p.1 j.is))
     (λ z. need (λ k. moved_both from to i.value.heap j.value.heap k z) (claims_both to i.value.claims j.value.claims z) j.value.env)
 
 layer : {X A : Type 0} (invs : List Inv) (t : Truth) (a : X → A) (q : A → Asks) (f : A → Test) → ((x : X) → Carries (q (a x)) (f (a x))) → (l : Asrt-F X)
@@ -153,6 +153,6 @@ asks_carried invs t a =
     let p = fold-roll-Asrt Asks (asks_step t) x in
     let q = fold-roll-Asrt Test (asrt_step invs) x in
     let l = subst (λ z. Carries (asks_step t (map-Asrt Asrt Asks (asks t) z)) (asrt_step invs (map-Asrt Asrt Test (asrt_fits invs) z))) is
-      (layer invs t (λ e. e.0) (asks t) (asrt_fits invs) (λ e. e.1) y) in
+    (layer invs t (λ e. e.0) (asks t) (asrt_fits invs) (λ e. e.1) y) in
     subst (λ (z : Asks). Carries z (asrt_fits invs (roll-Asrt x))) (sym p)
-      (subst (λ (z : Test). Carries (asks_step t (map-Asrt Asrt Asks (asks t) x)) z) (sym q) l)) a
+    (subst (λ (z : Test). Carries (asks_step t (map-Asrt Asrt Asks (asks t) x)) z) (sym q) l)) a

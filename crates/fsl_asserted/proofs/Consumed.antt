@@ -1,7 +1,7 @@
 -- Each assertion consumed: what it asks for was there, and the state fits what is left.
-use Rattle.std.proofs.Common.{◌≡◌, ℕ, ◌+◌, ◌-◌, ◌≤◌, Bool, true, false, ◌||◌, inl, inr, List, [], ◌∷◌, ◌++◌, map, Option, Some, None, ℤ, pos, ◌+ℤ◌, ◌-ℤ◌, ◌≤ℤ◌, if◌then◌else◌, refl, ap, sym, subst, ◌∙◌, arith}
+use Rattle.std.proofs.Common.{◌≡◌, ℕ, ◌+◌, ◌-◌, ◌≤◌, Bool, true, false, inl, inr, List, [], ◌∷◌, map, Option, Some, ℤ, pos, ◌+ℤ◌, ◌-ℤ◌, ◌≤ℤ◌, if◌then◌else◌, refl, ap, sym, subst, ◌∙◌, arith}
 use Rattle.std.specs.Ordering.{int_eq}
-use Rattle.std.specs.List.{list_all, list_any}
+use Rattle.std.specs.List.{list_any}
 use Rattle.std.proofs.lemmas.Int.{ints}
 use Rattle.std.proofs.lemmas.Bool.{and_parts, and_from, or_cases, or_left, or_right}
 use Rattle.fsl_core.specs.declared.assertion.Inst.{Inst}
@@ -10,31 +10,28 @@ use Rattle.fsl_core.specs.declared.chunk.Chunk.{Chunk}
 use Rattle.fsl_core.specs.declared.chunk.Chunk.TheVariants as chunk
 use Rattle.fsl_core.specs.declared.expr.Cond.{Cond}
 use Rattle.fsl_core.specs.declared.expr.Expr.{Expr}
-use Rattle.fsl_core.specs.declared.mode.Rung.{Rung}
-use Rattle.fsl_core.specs.declared.mode.Rung.TheVariants.{Up, Down}
 use Rattle.fsl_core.specs.declared.verdict.Kind.TheVariants as kind
-use Rattle.fsl_core.specs.Values.{with_value}
 use Rattle.fsl_core.specs.logic.States.{Env, State}
 use Rattle.fsl_core.specs.logic.Terms.{expr_of}
 use Rattle.fsl_core.specs.logic.Deciding.{cond_of, proves_equal}
-use Rattle.fsl_core.specs.logic.Chunks.{Found, Leave, leave, Permission, Count, init_at, rel_of, rmw_of, tokens_of, authority_of}
+use Rattle.fsl_core.specs.logic.Chunks.{Leave, Permission, init_at, rel_of, rmw_of, tokens_of, authority_of}
 use Rattle.fsl_core.specs.logic.Joining.{nought}
 use Rattle.fsl_core.specs.logic.Producing.{pat_of, inst_of, bank_of, chosen}
-use Rattle.fsl_core.specs.logic.Consuming.{Consume, failing, excludes_no_more, permission_of, consume_tokens, consume_authority, emp_consumed, fact_consumed, points_consumed, init_consumed, rel_consumed, acq_consumed, rmw_consumed, tok_consumed, auth_consumed, choice_consumed, all_consumed}
-use Rattle.fsl_lin.specs.Combination.{Combination, minus}
+use Rattle.fsl_core.specs.logic.Consuming.{Consume, failing, excludes_no_more, permission_of, consume_tokens, emp_consumed, fact_consumed, points_consumed, init_consumed, rel_consumed, acq_consumed, rmw_consumed, tok_consumed, auth_consumed, choice_consumed, all_consumed}
+use Rattle.fsl_lin.specs.Combination.{Combination}
 use Rattle.fsl_lin.specs.Numbers.{Numbers}
 use Rattle.fsl_lin.specs.declared.fact.Fact.{Fact}
 use Rattle.fsl_meaning.specs.Means.{Means, EachMeans, AllMean, HoldAll}
-use Rattle.fsl_meaning.specs.Heaps.{Key, Key as key, Heap, Holds, nothing, some_of, less, Claim, Claim as claim, Ground, AllKnown, all_in}
+use Rattle.fsl_meaning.specs.Heaps.{Key, Key as key, Heap, nothing, some_of, less, Claim, Claim as claim, Ground, AllKnown, all_in}
 use Rattle.fsl_meaning.specs.States.{OwnsPermission, OwnsTokens, OwnsBank, KnowsInit, KnowsLeave, Stands, All, Fits}
 use Rattle.fsl_meaning.specs.Branches.{Lands}
-use Rattle.fsl_meaning.proofs.Terms.{means_more, means_as, means_minus, means_constant, all_more}
-use Rattle.fsl_meaning.proofs.Calculus.{lands_then, lands_give, lands_as, lands_end, tells_then, tells_lands}
+use Rattle.fsl_meaning.proofs.Terms.{means_as, means_minus, means_constant, all_more}
+use Rattle.fsl_meaning.proofs.Calculus.{lands_then, lands_give, lands_as, tells_then}
 use Rattle.fsl_meaning.proofs.Facts.{proved_equal}
 use Rattle.fsl_meaning.proofs.Deciding.{is_equal, lands_decided, tells_demand_cond}
 use Rattle.fsl_meaning.proofs.Heaps.{some_self}
-use Rattle.fsl_meaning.proofs.Owned.{fits_less, IsOut, tells_find_or, lands_put, lands_take}
-use Rattle.fsl_meaning.proofs.Readings.{init_read, rel_chunk, rmw_chunk, same_rel_read, same_rmw_read, tokens_read, authority_read, acq_chunk, permission_read, all_equal_is, IsSameLeave, same_leave_is}
+use Rattle.fsl_meaning.proofs.Owned.{fits_less, tells_find_or, lands_put, lands_take}
+use Rattle.fsl_meaning.proofs.Readings.{init_read, same_rel_read, same_rmw_read, tokens_read, authority_read, permission_read, all_equal_is, IsSameLeave, same_leave_is}
 use Rattle.fsl_meaning.proofs.Joining.{tells_fitting}
 use Rattle.fsl_meaning.proofs.Slots.{all_get}
 use Rattle.fsl_asserted.specs.Exact.{exact, exact_all, exact_cond}
@@ -111,7 +108,7 @@ rel_gives g at inst mood rung h slots v s env xs fit all =
     let r = same_rel_read l s.facts out.item f.is out.reads_as in
     let k : KnowsLeave g s.next v claim.MayWrite f.is.at f.is.inv f.is.args = subst (λ (c : Chunk). Stands g s.next v c out.mine) r.0 out.fits.owns.stands in
     lands_give env s (given (claim.MayWrite (exact at xs) inst.inv (exact_all inst.args xs) ∷ []) xs refl
-      (leave_known claim.MayWrite f.is fit.one fit.facts m k (same_leave_is s.facts f.is l r.1), tt) fit all)))
+    (leave_known claim.MayWrite f.is fit.one fit.facts m k (same_leave_is s.facts f.is l r.1), tt) fit all)))
 
 pub rmw_gives : (g : Ground) (at : Expr) (inst : Inst)
     → ConsumeFits g (rmw_consumed (expr_of at) (inst_of expr_of inst)) (λ rung xs. claim_asked (claim.MayUpdate (exact at xs) inst.inv (exact_all inst.args xs)) rung xs)
@@ -121,7 +118,7 @@ rmw_gives g at inst mood rung h slots v s env xs fit all =
     let r = same_rmw_read l s.facts out.item f.is out.reads_as in
     let k : KnowsLeave g s.next v claim.MayUpdate f.is.at f.is.inv f.is.args = subst (λ (c : Chunk). Stands g s.next v c out.mine) r.0 out.fits.owns.stands in
     lands_give env s (given (claim.MayUpdate (exact at xs) inst.inv (exact_all inst.args xs) ∷ []) xs refl
-      (leave_known claim.MayUpdate f.is fit.one fit.facts m k (same_leave_is s.facts f.is l r.1), tt) fit all)))
+    (leave_known claim.MayUpdate f.is fit.one fit.facts m k (same_leave_is s.facts f.is l r.1), tt) fit all)))
 
 -- ---- permissions
 
@@ -208,15 +205,15 @@ lands_consume_tokens {g = g} {v = v} {s = s} {h = h} {number = number} {z = z} b
     let here : n.amount ≤ out.mine one = line_trans n.amount o.amount (out.mine one) few there in
     tells_then _ (tells_fitting (means_as (line_minus o.amount n.amount few) (means_minus o.count_is b_is))) (λ rest rest_is.
     lands_as (lands_put f (chunk.Tok f.is.bank rest) (less out.mine one n.amount) (less h one n.amount) out.fits
-      (record {
-        number = number;
-        amount = o.amount - n.amount;
-        bank_is = means_as same o.bank_is;
-        count_is = rest_is;
-        there = subst (λ (m : ℕ). o.amount - n.amount ≤ out.mine one - m) (sym (some_self one n.amount)) (line_less o.amount n.amount (out.mine one) there);
-      })
-      (both_less out.mine out.rest h one n.amount out.holds here))
-      (λ u3 t w q fits. record { count = n; enough = part_within out.mine out.rest h one n.amount out.holds here; fits = fits })))))
+    (record {
+      number = number;
+      amount = o.amount - n.amount;
+      bank_is = means_as same o.bank_is;
+      count_is = rest_is;
+      there = subst (λ (m : ℕ). o.amount - n.amount ≤ out.mine one - m) (sym (some_self one n.amount)) (line_less o.amount n.amount (out.mine one) there);
+    })
+    (both_less out.mine out.rest h one n.amount out.holds here))
+    (λ u3 t w q fits. record { count = n; enough = part_within out.mine out.rest h one n.amount out.holds here; fits = fits })))))
 
 pub tok_gives : (g : Ground) (bank : ℕ) (e : Expr) → ConsumeFits g (tok_consumed bank (expr_of e)) (tok_asked bank e)
 tok_gives g bank e mood rung h slots v s env xs fit all =
@@ -243,16 +240,16 @@ auth_gives g bank e mood rung h slots v s env xs fit all =
     let one = key.Bank number in
     tells_then _ (reads_term e fit all) (λ k k_is.
     lands_then (tells_then _ (tells_find_or kind.Token (authority_of (bank_of bank env)) fit) (λ f out.
-      let r = authority_read (bank_of bank env) s.facts out.item f.is out.reads_as in
-      let o : OwnsBank g s.next v f.is.bank f.is.n out.mine = subst (λ (c : Chunk). Stands g s.next v c out.mine) r.0 out.fits.owns.stands in
-      let same : o.number ≡ number = proved_equal fit.one fit.facts o.bank_is (all_get bank all) r.1 in
-      let there : 1 ≤ out.mine one = subst (λ (b : ℤ). 1 ≤ out.mine (key.Bank b)) same o.there in
-      tells_then _ (tells_equal kind.Token f.is.n k fit o.count_is k_is) (λ u equal.
-      lands_as (lands_take f out.fits) (λ u2 t w q fits. record {
-        said = ap g.truth.bank (sym same) ∙ equal;
-        enough = part_within out.mine out.rest h one 1 out.holds there;
-        fits = fits_less (less h one 1) (rest_less out.mine out.rest h one 1 out.holds there) fits;
-      })))) (λ u t w r c. let taken : TakesBank g slots number (exact e xs) h t w = c in lands_give env t (record {
+    let r = authority_read (bank_of bank env) s.facts out.item f.is out.reads_as in
+    let o : OwnsBank g s.next v f.is.bank f.is.n out.mine = subst (λ (c : Chunk). Stands g s.next v c out.mine) r.0 out.fits.owns.stands in
+    let same : o.number ≡ number = proved_equal fit.one fit.facts o.bank_is (all_get bank all) r.1 in
+    let there : 1 ≤ out.mine one = subst (λ (b : ℤ). 1 ≤ out.mine (key.Bank b)) same o.there in
+    tells_then _ (tells_equal kind.Token f.is.n k fit o.count_is k_is) (λ u equal.
+    lands_as (lands_take f out.fits) (λ u2 t w q fits. record {
+      said = ap g.truth.bank (sym same) ∙ equal;
+      enough = part_within out.mine out.rest h one 1 out.holds there;
+      fits = fits_less (less h one 1) (rest_less out.mine out.rest h one 1 out.holds there) fits;
+    })))) (λ u t w r c. let taken : TakesBank g slots number (exact e xs) h t w = c in lands_give env t (record {
       need = need (some_of one 1) [] xs;
       is = only_true (int_eq (g.truth.bank number) (exact e xs)) _ (is_equal (g.truth.bank number) (exact e xs) taken.said);
       known = tt;

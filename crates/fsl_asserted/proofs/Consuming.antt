@@ -1,5 +1,5 @@
 -- Shares of cells consumed: the state fits what is left.
-use Rattle.std.proofs.Common.{◌≡◌, ◌⊎◌, inl, inr, ℕ, ◌+◌, ◌-◌, ◌<◌, ◌≤◌, Bool, true, false, List, [], ◌∷◌, ◌++◌, map, Option, Some, None, ℤ, pos, ◌+ℤ◌, ◌-ℤ◌, ◌≤ℤ◌, refl, ap, sym, subst, ◌∙◌, arith}
+use Rattle.std.proofs.Common.{◌≡◌, ◌⊎◌, inl, inr, ℕ, ◌-◌, ◌<◌, ◌≤◌, Bool, true, false, List, Option, Some, None, ℤ, pos, ◌+ℤ◌, ◌-ℤ◌, ◌≤ℤ◌, refl, sym, subst, arith}
 use Rattle.std.specs.Ordering.{int_eq}
 use Rattle.std.specs.Prelude.{slice_set}
 use Rattle.std.proofs.lemmas.Int.{ints}
@@ -14,28 +14,28 @@ use Rattle.fsl_core.specs.declared.verdict.Kind.TheVariants as kind
 use Rattle.fsl_core.specs.logic.States.{Env, State, Rule, ◌>>=◌, ◌>>◌, give, either}
 use Rattle.fsl_core.specs.logic.Terms.{fitting}
 use Rattle.fsl_core.specs.logic.Deciding.{proves_at_most, proves_equal, assume_at_most}
-use Rattle.fsl_core.specs.logic.Chunks.{Found, first, Cell, cell_chunk, cell_at, enough_at}
-use Rattle.fsl_core.specs.logic.Producing.{Wanted, any, bind, equals}
+use Rattle.fsl_core.specs.logic.Chunks.{Found, first, Cell, cell_at, enough_at}
+use Rattle.fsl_core.specs.logic.Producing.{Wanted}
 use Rattle.fsl_core.specs.logic.Consuming.{demand_at_most, demand_equal, rest_of, leave_rest, lacking, enough_or, find_cell, match_value, demand_share, consume_cell}
 use Rattle.fsl_lin.specs.Combination.{Combination, minus, constant}
 use Rattle.fsl_lin.specs.Numbers.{Numbers}
-use Rattle.fsl_meaning.specs.Means.{Means, AllMean, IsKnown, Grows}
-use Rattle.fsl_meaning.specs.Heaps.{Key, Key as key, Heap, Holds, Ground, some_of, less}
+use Rattle.fsl_meaning.specs.Means.{Means, AllMean, IsKnown}
+use Rattle.fsl_meaning.specs.Heaps.{Key as key, Heap, Holds, Ground, less}
 use Rattle.fsl_meaning.specs.States.{OwnsCell, Stands, Owning, All, Opened, Fits}
 use Rattle.fsl_meaning.specs.Branches.{Lands, Tells, Tells as tell}
 use Rattle.fsl_meaning.proofs.Terms.{means_more, means_as, means_minus, means_constant, known_more, all_more}
-use Rattle.fsl_meaning.proofs.Calculus.{lands_then, lands_give, lands_as, lands_left, lands_right, lands_end, tells_then, tells_on, tells_as, tells_give, tells_look, tells_demand, tells_some, tells_end, tells_lands}
+use Rattle.fsl_meaning.proofs.Calculus.{lands_then, lands_give, lands_as, lands_left, lands_right, lands_end, tells_then, tells_on, tells_as, tells_give, tells_demand, tells_some, tells_end}
 use Rattle.fsl_meaning.proofs.Facts.{proved_at_most, proved_equal, lands_at_most}
 use Rattle.fsl_meaning.proofs.Deciding.{is_equal}
 use Rattle.fsl_meaning.proofs.Heaps.{some_self}
-use Rattle.fsl_meaning.proofs.Owned.{stands_more, fits_less, IsOut, out_of, lands_put, lands_take}
+use Rattle.fsl_meaning.proofs.Owned.{fits_less, IsOut, out_of, lands_put, lands_take}
 use Rattle.fsl_meaning.proofs.Readings.{enough_read}
 use Rattle.fsl_meaning.proofs.Joining.{tells_fitting}
 use Rattle.fsl_meaning.proofs.Slots.{all_set}
 use Rattle.fsl_asserted.specs.Exact.{exact}
 use Rattle.fsl_asserted.specs.Needs.{matched, only_if}
 use Rattle.fsl_asserted.proofs.Asking.{HasShare, share_of, rest_less, both_less, part_within}
-use Rattle.fsl_asserted.proofs.Terms.{WantedMeans, wanted_more}
+use Rattle.fsl_asserted.proofs.Terms.{WantedMeans}
 
 -- ---- demands
 
@@ -144,7 +144,7 @@ something {s = s} {a = a} {b = b} share k fit h m l =
     tells_then _ (tells_fitting (means_as (line_minus a b l) (means_minus h m))) (λ r r_is. lands_give (Some r) s (record { rest = (l, r_is); fits = fit }))
 
 line_split : (a b : ℕ) → b ≤ a → (a ≡ b) ⊎ (b < a)
-line_split a b h = elim (cases_eq a b) [ | inl e ↦ inl e | inr d ↦ inr (line_either a b h d) ]
+line_split a b h = elim (cases_eq a b) [ inl e ↦ inl e | inr d ↦ inr (line_either a b h d) ]
 
 rest_lands : {slots : List ℤ} {own : Owning} {v : Numbers} {s : State} {a b : ℕ} (share k : Combination) → Fits slots own v s → Means s.next v share (pos a) → Means s.next v k (pos b) → b ≤ a
     → (gone : Bool) → proves_equal s.facts share k ≡ gone → (stays : Bool) → proves_at_most s.facts k (pos 1) share ≡ stays

@@ -1,5 +1,5 @@
 -- The term of an expression means its exact number, and a condition is judged by the numbers of its sides.
-use Rattle.std.proofs.Common.{◌≡◌, ℕ, Bool, true, false, List, [], ◌∷◌, map, Option, Some, None, ℤ, pos, negsuc, ◌+ℤ◌, ◌-ℤ◌, ◌*ℤ◌, get_or, refl, ap, sym, subst, ◌∙◌}
+use Rattle.std.proofs.Common.{◌≡◌, ℕ, Bool, true, false, List, [], ◌∷◌, map, Option, Some, None, ℤ, pos, negsuc, ◌*ℤ◌, get_or, refl, ap, sym, subst, ◌∙◌}
 use Rattle.std.proofs.Math.IntN.{*ℤ_comm}
 use Rattle.fsl_core.specs.declared.expr.Expr.{Expr}
 use Rattle.fsl_core.specs.declared.expr.Part.{Part}
@@ -13,7 +13,7 @@ use Rattle.fsl_core.specs.logic.States.{Env}
 use Rattle.fsl_core.specs.logic.Deciding.{cond_of}
 use Rattle.fsl_core.specs.logic.Terms.{Expression, expr_step, part_step, expr_of, with_term, narrow, signed, last_or, number_of, constant_of, multiplied, signed_term}
 use Rattle.fsl_core.specs.logic.Terms.{sum_from as sum_terms, product_from as product_terms}
-use Rattle.fsl_lin.specs.Combination.{Combination, plus, minus, times, constant, is_narrow}
+use Rattle.fsl_lin.specs.Combination.{Combination, times, constant, is_narrow}
 use Rattle.fsl_lin.specs.Facts.{rows}
 use Rattle.fsl_lin.specs.Numbers.{Numbers, part, is_constant}
 use Rattle.fsl_lin.specs.Rows.{normal}
@@ -100,7 +100,7 @@ product_means a f f2 each (p ∷ ps) n v facts env xs product x u one hold all h
     let k : Means n v i.term (f2 (a p) xs) = (each p).means n v facts env xs i.term one hold all i.is in
     let j = term_is (multiplied (constant_of facts product) (constant_of facts i.term) product i.term) _ u i.then_is in
     let m : Means n v j.term (x *ℤ f2 (a p) xs) = multiplied_means (constant_of facts product) (constant_of facts i.term) j.term
-      (λ c d. constant_is facts c one hold h d) (λ c d. constant_is facts c one hold k d) h k j.is in
+    (λ c d. constant_is facts c one hold h d) (λ c d. constant_is facts c one hold k d) h k j.is in
     product_means a f f2 each ps n v facts env xs j.term (x *ℤ f2 (a p) xs) u one hold all m j.then_is
 
 -- ---- one level
@@ -148,9 +148,9 @@ reads_expr = ind-Expr Reads (λ p. Reads p.e)
     let p = fold-roll-Expr Expression (Bool × Expression) expr_step part_step x in
     let q = fold-roll-Expr Number (Bool × Number) exact_step exact_part x in
     let l = subst (λ z. IsRead (expr_step (map-Expr Expr Part Expression (Bool × Expression) expr_of part_expr z)) (exact_step (map-Expr Expr Part Number (Bool × Number) exact part_exact z))) is
-      (layer (λ e. e.0) (λ e. e.0) expr_of part_expr exact part_exact (λ e. e.1) (λ p. part_reads p.0 p.1) y) in
+    (layer (λ e. e.0) (λ e. e.0) expr_of part_expr exact part_exact (λ e. e.1) (λ p. part_reads p.0 p.1) y) in
     subst (λ (z : Expression). IsRead z (exact (roll-Expr x))) (sym p)
-      (subst (λ (z : Number). IsRead (expr_step (map-Expr Expr Part Expression (Bool × Expression) expr_of part_expr x)) z) (sym q) l))
+    (subst (λ (z : Number). IsRead (expr_step (map-Expr Expr Part Expression (Bool × Expression) expr_of part_expr x)) z) (sym q) l))
     (λ x y is. subst (λ l. Reads l.e) is y.e.1)
 
 pub judges_cond : (c : Cond) → IsJudged (cond_of expr_of c) (exact_cond c)

@@ -1,5 +1,5 @@
 -- Each assertion produced: the state fits a heap that has what it asks for too.
-use Rattle.std.proofs.Common.{◌≡◌, ℕ, ◌+◌, ◌≤◌, ◌^◌, Bool, true, false, List, [], ◌∷◌, ◌++◌, map, Option, Some, None, ℤ, pos, if◌then◌else◌, refl, ap, sym, subst, ◌∙◌, arith}
+use Rattle.std.proofs.Common.{◌≡◌, ℕ, ◌+◌, ◌≤◌, ◌^◌, Bool, true, false, List, [], ◌∷◌, map, Option, Some, None, ℤ, pos, if◌then◌else◌, sym, subst, arith}
 use Rattle.std.specs.Ordering.{int_eq}
 use Rattle.std.specs.Prelude.{slice_set}
 use Rattle.fsl_core.specs.declared.assertion.Inst.{Inst}
@@ -9,22 +9,19 @@ use Rattle.fsl_core.specs.declared.chunk.Chunk.TheVariants as chunk
 use Rattle.fsl_core.specs.declared.expr.Cond.{Cond}
 use Rattle.fsl_core.specs.declared.expr.Expr.{Expr}
 use Rattle.fsl_core.specs.declared.mode.Rung.{Rung}
-use Rattle.fsl_core.specs.declared.mode.Rung.TheVariants.{Up, Down}
-use Rattle.fsl_core.specs.Values.{with_value}
-use Rattle.fsl_core.specs.logic.States.{Env, State, Branches, give}
+use Rattle.fsl_core.specs.logic.States.{Env, State, Branches}
 use Rattle.fsl_core.specs.logic.Terms.{expr_of}
 use Rattle.fsl_core.specs.logic.Deciding.{cond_of, assume_cond}
-use Rattle.fsl_core.specs.logic.Chunks.{Leave, leave}
-use Rattle.fsl_core.specs.logic.Joining.{produce_rel, produce_rmw}
-use Rattle.fsl_core.specs.logic.Producing.{Wanted, any, bind, equals, pat_of, inst_of, add_wanted, bank_of, Produce, emp_produced, fact_produced, points_produced, init_produced, rel_produced, acq_produced, rmw_produced, tok_produced, auth_produced, chosen, choice_produced, all_produced}
+use Rattle.fsl_core.specs.logic.Chunks.{Leave}
+use Rattle.fsl_core.specs.logic.Producing.{Wanted, pat_of, inst_of, add_wanted, bank_of, Produce, emp_produced, fact_produced, points_produced, init_produced, rel_produced, acq_produced, rmw_produced, tok_produced, auth_produced, chosen, choice_produced, all_produced}
 use Rattle.fsl_lin.specs.Combination.{Combination}
 use Rattle.fsl_lin.specs.Numbers.{Numbers}
-use Rattle.fsl_meaning.specs.Means.{Means, AllMean, IsKnown, Grows}
+use Rattle.fsl_meaning.specs.Means.{Means, AllMean, IsKnown}
 use Rattle.fsl_meaning.specs.Heaps.{Key, Key as key, Heap, Holds, nothing, some_of, Claim, MayWrite, MayUpdate, Ground, AllKnown, IsBounded}
 use Rattle.fsl_meaning.specs.States.{OwnsCell, KnowsLeave, All, Fits}
 use Rattle.fsl_meaning.specs.Branches.{Lands}
 use Rattle.fsl_meaning.proofs.Terms.{means_more, means_as, all_more}
-use Rattle.fsl_meaning.proofs.Calculus.{lands_then, lands_give, lands_as, tells_then}
+use Rattle.fsl_meaning.proofs.Calculus.{lands_then, lands_give, tells_then}
 use Rattle.fsl_meaning.proofs.Facts.{lands_symbol}
 use Rattle.fsl_meaning.proofs.Deciding.{equal, lands_decided, lands_assume_cond}
 use Rattle.fsl_meaning.proofs.Owned.{all_lasts, fits_less, lands_add, line_less}
@@ -58,7 +55,7 @@ pub fact_fits : (g : Ground) (c : Cond) → ProduceFits g (fact_produced (cond_o
 fact_fits g c rung n h more slots v s env xs fit all is =
     let p = if_asked (exact_cond c xs) (Some (need nothing [] xs)) n is in
     let l : Lands s.next v (λ u t w. Fits slots (All g h) w t) (assume_cond true (cond_of expr_of c) env s) =
-      subst (λ (b : Bool). Lands s.next v (λ u t w. Fits slots (All g h) w t) (assume_cond b (cond_of expr_of c) env s)) p.0 (lands_assume_cond (cond_of expr_of c) (exact_cond c) (judges_cond c) fit all) in
+    subst (λ (b : Bool). Lands s.next v (λ u t w. Fits slots (All g h) w t) (assume_cond b (cond_of expr_of c) env s)) p.0 (lands_assume_cond (cond_of expr_of c) (exact_cond c) (judges_cond c) fit all) in
     produced h s (need nothing [] xs) n p.1 (λ known holds bounds.
     lands_then l (λ u t w r f. lands_give env t (record { fits = fits_less more (more_of nothing h more holds) f; env = all_more r all })))
 
@@ -90,14 +87,14 @@ added {g = g} {slots = slots} {h = h} {v = v} {s = s} {env = env} {a = a} {k = k
     subst (λ (z : Wanted Combination). Lands s.next v (Gains g slots more ys) (add_wanted rung a k z env s)) (sym w_is)
     (lands_then (lands_symbol i.value (all_lasts g h) fit) (λ y t1 x1 r1 f1.
     lands_then (lands_add_cell rung (record { at = a; share = k; value = Some y }) more f1.0
-      (added_value rung (Some y) more loc amount f1.0 (all_more r1 all) (means_more r1 at_is) (means_more r1 share_is) some (record { number = i.value; is = i.is; means = f1.1 })) holds bounds) (λ u t x r f.
+    (added_value rung (Some y) more loc amount f1.0 (all_more r1 all) (means_more r1 at_is) (means_more r1 share_is) some (record { number = i.value; is = i.is; means = f1.1 })) holds bounds) (λ u t x r f.
     lands_give (slice_set env slot y) t (record { fits = f; env = subst (λ (zs : List ℤ). AllMean t.next x (slice_set env slot y) zs) (some_is i.then_is) (all_set slot (all_more r (all_more r1 all)) (means_more r f1.1)) }))))
 added {g = g} {slots = slots} {h = h} {v = v} {s = s} {env = env} {a = a} {k = k} {xs = xs} rung (pat.Is c) w more loc amount ys fit all at_is share_is some w_is e holds bounds =
     let i = value_asked (g.truth.value loc) (λ x. only_if (int_eq x (exact c xs)) (Some xs)) ys e in
     let p = if_asked (int_eq i.value (exact c xs)) (Some xs) ys i.then_is in
     subst (λ (z : Wanted Combination). Lands s.next v (Gains g slots more ys) (add_wanted rung a k z env s)) (sym w_is.is)
     (lands_then (lands_add_cell rung (record { at = a; share = k; value = Some w_is.term }) more fit
-      (added_value rung (Some w_is.term) more loc amount fit all at_is share_is some (record { number = i.value; is = i.is; means = means_as (sym (equal i.value (exact c xs) p.0)) w_is.means })) holds bounds) (λ u t x r f.
+    (added_value rung (Some w_is.term) more loc amount fit all at_is share_is some (record { number = i.value; is = i.is; means = means_as (sym (equal i.value (exact c xs) p.0)) w_is.means })) holds bounds) (λ u t x r f.
     lands_give env t (record { fits = f; env = subst (λ (zs : List ℤ). AllMean t.next x env zs) (some_is p.1) (all_more r all) })))
 
 pub points_fit : (g : Ground) (at share : Expr) (p : Pat) → ProduceFits g (points_produced (expr_of at) (expr_of share) (pat_of expr_of p)) (points_asked g.truth at share p)
@@ -108,7 +105,7 @@ points_fit g at share p rung n h more slots v s env xs fit all is =
     let cell = key.Cell rung (exact at xs) in
     produced h s (need (some_of cell i.value) [] j.value) n j.then_is (λ known holds bounds.
     let few : i.value ≤ 2 ^ 63 = line_less i.value (more cell) (2 ^ 63) (line_mine i.value (some_of cell i.value cell) (h cell) (more cell) (some_there cell i.value) (holds cell))
-      (line_less (more cell) _ (2 ^ 63) (share_at more rung (exact at xs)) (bounds.cells (exact at xs))) in
+    (line_less (more cell) _ (2 ^ 63) (share_at more rung (exact at xs)) (bounds.cells (exact at xs))) in
     tells_then _ (reads_term at fit all) (λ a a_is.
     tells_then _ (reads_term share fit all) (λ k k_is.
     tells_then _ (reads_wanted p fit all) (λ x x_is.
@@ -171,7 +168,7 @@ tok_fits g bank e rung n h more slots v s env xs fit all is =
     produced h s (need (some_of one i.value) [] xs) n i.then_is (λ known holds bounds.
     tells_then _ (reads_term e fit all) (λ k k_is.
     lands_then (lands_tokens (bank_of bank env) k more fit
-      (record { number = bank_number bank xs; amount = i.value; bank_is = all_get bank all; count_is = means_as (natural_is (exact e xs) i.value i.is) k_is; there = some_there one i.value }) holds bounds) (λ u t w r f.
+    (record { number = bank_number bank xs; amount = i.value; bank_is = all_get bank all; count_is = means_as (natural_is (exact e xs) i.value i.is) k_is; there = some_there one i.value }) holds bounds) (λ u t w r f.
     lands_give env t (record { fits = f; env = all_more r all }))))
 
 pub auth_fits : (g : Ground) (bank : ℕ) (e : Expr) → ProduceFits g (auth_produced bank (expr_of e)) (auth_asked g.truth bank e)
@@ -228,6 +225,6 @@ all_fit g (p ∷ ps) (q ∷ qs) each rung n h more slots v s env xs fit all is k
     produced h s (both_asked a b) n j.then_is (λ known holds bounds.
     let mid : Heap = λ k. a.heap k + h k in
     lands_then (each.0 rung a h mid slots v s env xs fit all i.is (known_left g a.claims b.claims known) (λ k. line_first (a.heap k) (b.heap k) (h k) (more k) (holds k))
-      (bounded_less mid (λ k. line_middle (a.heap k) (b.heap k) (h k) (more k) (holds k)) bounds)) (λ e t w r f.
+    (bounded_less mid (λ k. line_middle (a.heap k) (b.heap k) (h k) (more k) (holds k)) bounds)) (λ e t w r f.
     all_fit g ps qs each.1 rung b mid more slots w t e a.env f.fits f.env j.is (known_right g a.claims b.claims known)
     (λ k. line_rest (a.heap k) (b.heap k) (h k) (more k) (holds k)) bounds)) known holds bounds

@@ -1,5 +1,5 @@
 -- What an assertion asks for stays where nothing changed of what it asks for.
-use Rattle.std.proofs.Common.{◌≡◌, ℕ, ◌+◌, ◌≤◌, Bool, true, false, List, [], ◌∷◌, map, Option, Some, None, ℤ, pos, if◌then◌else◌, refl, ap, sym, subst, ◌∙◌, arith}
+use Rattle.std.proofs.Common.{◌≡◌, ℕ, ◌+◌, ◌≤◌, Bool, true, false, List, [], ◌∷◌, map, Option, Some, ℤ, if◌then◌else◌, ap, sym, subst, ◌∙◌, arith}
 use Rattle.std.specs.Ordering.{int_eq}
 use Rattle.std.specs.Prelude.{slice_set}
 use Rattle.fsl_core.specs.declared.assertion.Asrt.{Asrt}
@@ -11,8 +11,7 @@ use Rattle.fsl_core.specs.declared.assertion.Pat.TheVariants as pat
 use Rattle.fsl_core.specs.declared.expr.Expr.{Expr}
 use Rattle.fsl_core.specs.declared.mode.Rung.{Rung}
 use Rattle.fsl_core.specs.declared.mode.Rung.TheVariants as rung
-use Rattle.fsl_core.specs.Values.{with_value}
-use Rattle.fsl_meaning.specs.Heaps.{Key, Key as key, Heap, some_of, Truth, Claim as claim, Agrees, all_in}
+use Rattle.fsl_meaning.specs.Heaps.{Key as key, some_of, Truth, Claim as claim, Agrees, all_in}
 use Rattle.fsl_meaning.proofs.Kept.{agrees_less}
 use Rattle.fsl_asserted.specs.Exact.{exact, exact_all, exact_cond}
 use Rattle.fsl_asserted.specs.Needs.{Need, need, Asks, only_if, positive, matched, points_asked, acq_asked, bank_number, auth_asked, both_asked, all_asked, asks_step, asks}
@@ -109,6 +108,6 @@ asks_stay t later = ind-Asrt (λ a. Stays t later (asks t a) (asks later a))
     let p = fold-roll-Asrt Asks (asks_step t) x in
     let q = fold-roll-Asrt Asks (asks_step later) x in
     let l = subst (λ z. Stays t later (asks_step t (map-Asrt Asrt Asks (asks t) z)) (asks_step later (map-Asrt Asrt Asks (asks later) z))) is
-      (layer t later (λ e. e.0) (asks t) (asks later) (λ e. e.1) y) in
+    (layer t later (λ e. e.0) (asks t) (asks later) (λ e. e.1) y) in
     subst (λ (z : Asks). Stays t later z (asks later (roll-Asrt x))) (sym p)
-      (subst (λ (z : Asks). Stays t later (asks_step t (map-Asrt Asrt Asks (asks t) x)) z) (sym q) l))
+    (subst (λ (z : Asks). Stays t later (asks_step t (map-Asrt Asrt Asks (asks t) x)) z) (sym q) l))

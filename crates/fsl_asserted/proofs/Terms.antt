@@ -1,5 +1,5 @@
 -- The terms that an assertion's rules begin with: locations with their invariants, patterns, banks.
-use Rattle.std.proofs.Common.{◌≡◌, ℕ, Bool, true, false, List, [], ◌∷◌, map, Option, Some, None, ℤ, pos, get_or, refl, ap, sym, subst, ◌∙◌}
+use Rattle.std.proofs.Common.{◌≡◌, ℕ, List, map, ℤ, refl}
 use Rattle.fsl_core.specs.declared.assertion.Inst.{Inst}
 use Rattle.fsl_core.specs.declared.assertion.Pat.{Pat}
 use Rattle.fsl_core.specs.declared.assertion.Pat.TheVariants as pat
@@ -14,7 +14,7 @@ use Rattle.fsl_meaning.specs.Means.{Means, AllMean}
 use Rattle.fsl_meaning.specs.States.{Owning, Fits}
 use Rattle.fsl_meaning.specs.Branches.{Tells}
 use Rattle.fsl_meaning.proofs.Terms.{means_more}
-use Rattle.fsl_meaning.proofs.Calculus.{tells_on, tells_as, tells_give}
+use Rattle.fsl_meaning.proofs.Calculus.{tells_on, tells_give}
 use Rattle.fsl_meaning.proofs.Deciding.{tells_term, tells_terms}
 use Rattle.fsl_meaning.specs.Means.{Grows}
 use Rattle.fsl_asserted.specs.Exact.{exact, exact_all}

@@ -1,5 +1,5 @@
 -- Every assertion, produced and consumed.
-use Rattle.std.proofs.Common.{◌≡◌, ℕ, List, [], ◌∷◌, map, ℤ, sym, subst}
+use Rattle.std.proofs.Common.{List, [], ◌∷◌, map, sym, subst}
 use Rattle.fsl_core.specs.declared.assertion.Asrt.{Asrt}
 use Rattle.fsl_core.specs.declared.assertion.Asrt.TheOpen.{Asrt-F}
 use Rattle.fsl_core.specs.declared.assertion.Asrt.TheViews.{roll-Asrt}
@@ -56,9 +56,9 @@ asrt_fits g = ind-Asrt (λ a. FitsBoth g (asrt_of a) (asks g.truth a))
     let p = fold-roll-Asrt Assertion (asrt_step expr_of) x in
     let q = fold-roll-Asrt Asks (asks_step g.truth) x in
     let l = subst (λ z. FitsBoth g (asrt_step expr_of (map-Asrt Asrt Assertion asrt_of z)) (asks_step g.truth (map-Asrt Asrt Asks (asks g.truth) z))) is
-      (layer g (λ e. e.0) asrt_of (asks g.truth) (λ e. e.1) y) in
+    (layer g (λ e. e.0) asrt_of (asks g.truth) (λ e. e.1) y) in
     subst (λ (z : Assertion). FitsBoth g z (asks g.truth (roll-Asrt x))) (sym p)
-      (subst (λ (z : Asks). FitsBoth g (asrt_step expr_of (map-Asrt Asrt Assertion asrt_of x)) z) (sym q) l))
+    (subst (λ (z : Asks). FitsBoth g (asrt_step expr_of (map-Asrt Asrt Assertion asrt_of x)) z) (sym q) l))
 
 pub produce_fits : (g : Ground) (a : Asrt) → ProduceFits g (asrt_of a).produce (asks g.truth a)
 produce_fits g a = (asrt_fits g a).produces

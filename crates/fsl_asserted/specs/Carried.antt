@@ -1,6 +1,6 @@
 -- What an assertion without modalities asks for at another rung: the same, with its cells and what it knows of atomic
 -- locations there.
-use Rattle.std.specs.Prelude.{◌≡◌, ℕ, Bool, true, false, List, map, Some, ℤ, if◌then◌else◌}
+use Rattle.std.specs.Prelude.{◌≡◌, true, false, List, map, Some, ℤ, if◌then◌else◌}
 use Rattle.fsl_core.specs.declared.assertion.Asrt.{Asrt}
 use Rattle.fsl_core.specs.declared.declaration.Inv.{Inv}
 use Rattle.fsl_core.specs.declared.mode.Rung.{Rung}

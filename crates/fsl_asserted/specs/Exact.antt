@@ -1,10 +1,9 @@
 -- The number of an expression where the variables have numbers, without the range of a run: it is there for every
 -- expression. The result stands behind the variables.
-use Rattle.std.specs.Prelude.{ℕ, Bool, true, false, List, [], ◌∷◌, map, ℤ, pos, negsuc, ◌*ℤ◌, get_or}
+use Rattle.std.specs.Prelude.{Bool, true, false, List, [], ◌∷◌, map, ℤ, pos, negsuc, ◌*ℤ◌, get_or}
 use Rattle.fsl_core.specs.declared.expr.Expr.{Expr}
 use Rattle.fsl_core.specs.declared.expr.Expr.TheOpen.{Expr-F, Part-F}
-use Rattle.fsl_core.specs.declared.expr.Expr.TheFolds.{fold-Expr, fold-Part}
-use Rattle.fsl_core.specs.declared.expr.Part.{Part}
+use Rattle.fsl_core.specs.declared.expr.Expr.TheFolds.{fold-Expr}
 use Rattle.fsl_core.specs.declared.expr.Cond.{Cond}
 use Rattle.fsl_core.specs.declared.expr.Cond.TheVariants as cond
 use Rattle.fsl_core.specs.Values.{plus_or_minus, compared}

@@ -1,6 +1,6 @@
 -- When the rules of an assertion fit what it asks for: produced, the state fits a heap that has this too; consumed,
 -- it fits what is left.
-use Rattle.std.specs.Prelude.{◌≡◌, ℕ, ◌+◌, List, Option, Some, ℤ}
+use Rattle.std.specs.Prelude.{◌≡◌, ◌+◌, List, Option, Some, ℤ}
 use Rattle.fsl_core.specs.declared.mode.Rung.{Rung}
 use Rattle.fsl_core.specs.declared.verdict.Mood.{Mood}
 use Rattle.fsl_core.specs.logic.States.{Env, State}

@@ -1,6 +1,6 @@
 -- What an assertion asks for: a heap and claims, at a rung and with the numbers of the variables; and the numbers of
 -- the variables with its binders. It asks for nothing at all where it is false.
-use Rattle.std.specs.Prelude.{ℕ, zero, suc, ◌+◌, Bool, true, false, List, [], ◌∷◌, ◌++◌, map, Option, Some, None, ℤ, pos, negsuc, get_or, slice_set, if◌then◌else◌}
+use Rattle.std.specs.Prelude.{ℕ, zero, suc, ◌+◌, Bool, List, [], ◌∷◌, ◌++◌, Option, Some, None, ℤ, pos, negsuc, get_or, slice_set, if◌then◌else◌}
 use Rattle.std.specs.Ordering.{int_eq}
 use Rattle.fsl_core.specs.declared.assertion.Asrt.{Asrt}
 use Rattle.fsl_core.specs.declared.assertion.Asrt.TheOpen.{Asrt-F}
@@ -11,8 +11,8 @@ use Rattle.fsl_core.specs.declared.expr.Expr.{Expr}
 use Rattle.fsl_core.specs.declared.mode.Rung.{Rung}
 use Rattle.fsl_core.specs.declared.mode.Rung.TheVariants.{Up, Down}
 use Rattle.fsl_core.specs.Values.{with_value}
-use Rattle.fsl_meaning.specs.Heaps.{Key, Cell, Permission, Tokens, Bank, Heap, nothing, some_of, Truth, Claim, IsInit, MayWrite, MayRead, MayUpdate, all_in}
-use Rattle.fsl_asserted.specs.Exact.{Number, exact, exact_all, exact_cond}
+use Rattle.fsl_meaning.specs.Heaps.{Cell, Permission, Tokens, Bank, Heap, nothing, some_of, Truth, Claim, IsInit, MayWrite, MayRead, MayUpdate, all_in}
+use Rattle.fsl_asserted.specs.Exact.{exact, exact_all, exact_cond}
 
 pub record Need : Type 0 where
   pub heap : Heap

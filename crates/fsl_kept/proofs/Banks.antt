@@ -1,5 +1,5 @@
 -- Banks of tokens: made, minted from, burned.
-use Rattle.std.proofs.Common.{◌≡◌, ℕ, ◌+◌, ◌-◌, ◌≤◌, ◌^◌, Bool, true, false, List, ◌∷◌, ◌++◌, Option, Some, None, ℤ, pos, ◌+ℤ◌, ◌-ℤ◌, ◌≤ℤ◌, if◌then◌else◌, refl, ap, sym, subst, ◌∙◌, arith}
+use Rattle.std.proofs.Common.{◌≡◌, ℕ, ◌+◌, ◌-◌, ◌≤◌, ◌^◌, Bool, true, false, List, ◌∷◌, ◌++◌, ℤ, pos, ◌+ℤ◌, ◌≤ℤ◌, if◌then◌else◌, refl, ap, sym, subst, ◌∙◌, arith}
 use Rattle.std.specs.Ordering.{int_eq}
 use Rattle.std.specs.Prelude.{slice_set}
 use Rattle.std.proofs.lemmas.Int.{ints}
@@ -17,23 +17,23 @@ use Rattle.fsl_core.specs.logic.Tokens.{new_bank, mint, burn, minted, step_of, t
 use Rattle.fsl_lin.specs.Combination.{Combination}
 use Rattle.fsl_lin.specs.Numbers.{Numbers}
 use Rattle.fsl_meaning.specs.Means.{Means}
-use Rattle.fsl_meaning.specs.Heaps.{Key, Key as key, Heap, some_of, less, Holds, Truth, Ground, IsBounded, Agrees}
-use Rattle.fsl_meaning.specs.States.{OwnsBank, Stands, Owns, All, Opened, Fits}
+use Rattle.fsl_meaning.specs.Heaps.{Key as key, Heap, some_of, less, Holds, Truth, Ground, IsBounded, Agrees}
+use Rattle.fsl_meaning.specs.States.{OwnsBank, Stands, Owns, All, Fits}
 use Rattle.fsl_meaning.specs.Branches.{Lands}
 use Rattle.fsl_meaning.proofs.Terms.{means_more, means_as, means_plus, means_minus, means_constant}
 use Rattle.fsl_meaning.proofs.Calculus.{lands_then, lands_give, lands_as, lands_end, tells_then}
 use Rattle.fsl_meaning.proofs.Facts.{proved_equal, lands_symbol}
 use Rattle.fsl_meaning.proofs.Deciding.{equal, is_equal}
 use Rattle.fsl_meaning.proofs.Kept.{owns_kept}
-use Rattle.fsl_meaning.proofs.Owned.{all_lasts, fits_back, insert, IsOut, tells_find_or, lands_put, lands_add, line_less}
+use Rattle.fsl_meaning.proofs.Owned.{all_lasts, insert, IsOut, tells_find_or, lands_add}
 use Rattle.fsl_meaning.proofs.Readings.{authority_read}
 use Rattle.fsl_meaning.proofs.Joining.{tells_fitting, lands_tokens, bounded_less}
 use Rattle.fsl_meaning.proofs.Slots.{all_get}
 use Rattle.fsl_asserted.specs.Exact.{exact}
 use Rattle.fsl_asserted.specs.Needs.{bank_number}
-use Rattle.fsl_asserted.proofs.Asking.{HasNatural, natural_of, some_there, part_within}
+use Rattle.fsl_asserted.proofs.Asking.{natural_of, some_there, part_within}
 use Rattle.fsl_asserted.proofs.Consuming.{tells_at_most}
-use Rattle.fsl_asserted.proofs.Consumed.{TakesTokens, lands_consume_tokens}
+use Rattle.fsl_asserted.proofs.Consumed.{lands_consume_tokens}
 use Rattle.fsl_asserted.proofs.Terms.{reads_term}
 use Rattle.fsl_kept.specs.Changes.{grounded, allowing, with_more}
 use Rattle.fsl_kept.specs.Results.{Mints, Burns, Steps}
@@ -45,7 +45,7 @@ pub new_bank_fits : {g : Ground} {slots : List ℤ} {h : Heap} {v : Numbers} {s 
 new_bank_fits {g = g} {h = h} slot number more fit empty holds =
     lands_then (lands_symbol number (all_lasts g h) fit) (λ b t w r f.
     lands_then (lands_add (chunk.Auth b nought) (some_of (key.Bank number) 1) more f.0
-      (record { number = number; bank_is = f.1; count_is = means_as (sym empty) (means_constant (pos 0)); there = some_there (key.Bank number) 1 }) holds) (λ u t2 w2 r2 f2.
+    (record { number = number; bank_is = f.1; count_is = means_as (sym empty) (means_constant (pos 0)); there = some_there (key.Bank number) 1 }) holds) (λ u t2 w2 r2 f2.
     lands_set slot f2 (means_more r2 f.1)))
 
 -- ---- another number
@@ -79,14 +79,14 @@ lands_renumber {g = g} {slots = slots} {v = v} {s = s} {h = h} {number = number}
     let later = grounded g (allowing number x g.truth) in
     let none : 1 ≤ out.rest (key.Bank number) → ⊥ = line_alone (out.mine (key.Bank number)) (out.rest (key.Bank number)) (h (key.Bank number)) there (out.holds (key.Bank number)) (bounds.alone number) in
     let others : Owns later s.next v (f.before ++ f.behind) out.rest =
-      owns_kept later (knows_same g (allowing number x g.truth) out.rest) (allowed_agrees g.truth out.rest number x none) out.fits.owns.others in
+    owns_kept later (knows_same g (allowing number x g.truth) out.rest) (allowed_agrees g.truth out.rest number x none) out.fits.owns.others in
     lands_give tt (record s { chunks = f.before ++ chunk.Auth f.is.bank n ∷ f.behind }) (record {
       one = fit.one;
       facts = fit.facts;
       env = fit.env;
       owns = record {
         each = insert later s.next v f.before (chunk.Auth f.is.bank n) f.behind out.mine out.rest h out.holds
-          (record { number = number; bank_is = means_as same own.bank_is; count_is = means_as (sym (allowed_is g.truth number x)) n_is; there = there }) others.each;
+            (record { number = number; bank_is = means_as same own.bank_is; count_is = means_as (sym (allowed_is g.truth number x)) n_is; there = there }) others.each;
       };
     })
 
@@ -149,9 +149,9 @@ mint_fits {g = g} {slots = slots} {h = h} {number = number} {z = z} bank k bound
     tells_then _ (tells_fitting (means_plus said.1 amount_is)) (λ sum sum_is.
     lands_then (lands_renumber f sum fit bounds out bank_is sum_is) (λ u2 t w r f2.
     lands_as (lands_tokens bank k (with_more h one n.amount) f2
-      (record { number = number; amount = n.amount; bank_is = means_more r bank_is; count_is = means_more r amount_is; there = some_there one n.amount })
-      (λ q. line_self (some_of one n.amount q + h q)) (minted_bounds g.truth h number n.amount bounds))
-      (λ u3 t3 w3 r3 fits. record { amount = n.amount; is = n.is; there = said.0; fits = fits })))))
+    (record { number = number; amount = n.amount; bank_is = means_more r bank_is; count_is = means_more r amount_is; there = some_there one n.amount })
+    (λ q. line_self (some_of one n.amount q + h q)) (minted_bounds g.truth h number n.amount bounds))
+    (λ u3 t3 w3 r3 fits. record { amount = n.amount; is = n.is; there = said.0; fits = fits })))))
 
 -- ---- burning
 

@@ -1,5 +1,5 @@
 -- Procedures and loops: what they start with, what is given and gained at a call, what a loop renews.
-use Rattle.std.proofs.Common.{◌≡◌, ℕ, zero, suc, ◌+◌, ◌<◌, ◌≤◌, ◌==◌, Bool, true, false, List, [], ◌∷◌, ◌++◌, length, get_or, take, Option, Some, None, ℤ, pos, if◌then◌else◌, refl, ap, sym, subst, ◌∙◌, add-one, arith}
+use Rattle.std.proofs.Common.{◌≡◌, ℕ, zero, suc, ◌<◌, ◌≤◌, ◌==◌, Bool, true, false, List, [], ◌∷◌, ◌++◌, length, get_or, take, Option, Some, None, ℤ, pos, if◌then◌else◌, refl, ap, sym, subst, ◌∙◌, add-one, arith}
 use Rattle.std.specs.List.{list_any}
 use Rattle.std.specs.Prelude.{slice_set}
 use Rattle.std.proofs.lemmas.List.{take_more, take_all}
@@ -8,7 +8,7 @@ use Rattle.fsl_core.specs.declared.declaration.Proc.{Proc}
 use Rattle.fsl_core.specs.declared.expr.Cond.{Cond}
 use Rattle.fsl_core.specs.declared.mode.Rung.TheVariants.{Plain}
 use Rattle.fsl_core.specs.declared.verdict.Mood.TheVariants as mood
-use Rattle.fsl_core.specs.logic.States.{Env, State, give}
+use Rattle.fsl_core.specs.logic.States.{Env, State}
 use Rattle.fsl_core.specs.logic.Terms.{expr_of}
 use Rattle.fsl_core.specs.logic.Deciding.{cond_of, decided}
 use Rattle.fsl_core.specs.logic.Assertions.{asrt_of}
@@ -19,18 +19,18 @@ use Rattle.fsl_core.specs.logic.Slots.{renew_one, renew}
 use Rattle.fsl_lin.specs.Combination.{Combination}
 use Rattle.fsl_lin.specs.Numbers.{Numbers}
 use Rattle.fsl_meaning.specs.Means.{Means, AllMean, padded_numbers}
-use Rattle.fsl_meaning.specs.Heaps.{Key, Heap, Holds, Ground, AllKnown, IsBounded}
-use Rattle.fsl_meaning.specs.States.{Owning, Owns, All, Fits}
+use Rattle.fsl_meaning.specs.Heaps.{Heap, Holds, Ground, AllKnown, IsBounded}
+use Rattle.fsl_meaning.specs.States.{Owning, All, Fits}
 use Rattle.fsl_meaning.specs.Branches.{Lands}
-use Rattle.fsl_meaning.proofs.Terms.{means_more, all_none, all_one, all_append, all_more}
+use Rattle.fsl_meaning.proofs.Terms.{all_none, all_one, all_append, all_more}
 use Rattle.fsl_meaning.proofs.Calculus.{lands_then, lands_give, lands_as, lands_end}
 use Rattle.fsl_meaning.proofs.Facts.{Lasts, lands_symbol}
-use Rattle.fsl_meaning.proofs.Deciding.{lands_decided, lands_assume_cond, lands_done}
+use Rattle.fsl_meaning.proofs.Deciding.{lands_decided, lands_assume_cond}
 use Rattle.fsl_meaning.proofs.Owned.{all_lasts}
 use Rattle.fsl_meaning.proofs.Slots.{all_padded}
 use Rattle.fsl_asserted.specs.Exact.{exact_cond}
 use Rattle.fsl_asserted.specs.Needs.{Need, asks}
-use Rattle.fsl_asserted.specs.Fitting.{Gains, Gives}
+use Rattle.fsl_asserted.specs.Fitting.{Gives}
 use Rattle.fsl_asserted.proofs.Exprs.{judges_cond}
 use Rattle.fsl_asserted.proofs.Trees.{produce_fits, consume_fits}
 use Rattle.fsl_kept.specs.Calls.{ResultMeans, result_number, numbers_set, numbers_with, renewed}

@@ -1,5 +1,5 @@
 -- Fences: what stands at down is there to be used, and what is given goes up.
-use Rattle.std.proofs.Common.{◌≡◌, ℕ, ◌+◌, ◌-◌, ◌≤◌, ◌^◌, Bool, true, false, not, cond, List, [], ◌∷◌, ◌++◌, map, Option, Some, None, ℤ, pos, ◌≤ℤ◌, if◌then◌else◌, refl, ap, sym, subst, ◌∙◌, arith}
+use Rattle.std.proofs.Common.{◌≡◌, ℕ, ◌+◌, ◌≤◌, ◌^◌, Bool, true, false, not, cond, List, [], ◌∷◌, map, Some, ℤ, pos, ◌≤ℤ◌, if◌then◌else◌, refl, sym, subst, ◌∙◌, arith}
 use Rattle.std.specs.List.{filter}
 use Rattle.fsl_core.specs.declared.assertion.Asrt.{Asrt}
 use Rattle.fsl_core.specs.declared.chunk.Chunk.{Chunk}
@@ -10,23 +10,22 @@ use Rattle.fsl_core.specs.declared.mode.Rung.{Rung}
 use Rattle.fsl_core.specs.declared.mode.Rung.TheVariants.{Plain, Up, Down, Msg}
 use Rattle.fsl_core.specs.declared.verdict.Mood.TheVariants as mood
 use Rattle.fsl_core.specs.Modes.{acquires, releases}
-use Rattle.fsl_core.specs.logic.States.{Env, State, done}
+use Rattle.fsl_core.specs.logic.States.{State}
 use Rattle.fsl_core.specs.logic.Chunks.{same_rung}
 use Rattle.fsl_core.specs.logic.Joining.{at_rung}
 use Rattle.fsl_core.specs.logic.Assertions.{asrt_of}
-use Rattle.fsl_core.specs.logic.Fences.{is_at, take_all, acquire, release, only, fence}
+use Rattle.fsl_core.specs.logic.Fences.{is_at, acquire, release, only, fence}
 use Rattle.fsl_lin.specs.Numbers.{Numbers}
 use Rattle.fsl_meaning.specs.Heaps.{Key, Key as key, Heap, Holds, Truth, Claim, Claim as claim, Ground, Knows, AllKnown, IsBounded}
 use Rattle.fsl_meaning.specs.States.{Stands, EachStands, All, Fits}
 use Rattle.fsl_meaning.specs.Branches.{Lands}
 use Rattle.fsl_meaning.proofs.Terms.{all_more}
-use Rattle.fsl_meaning.proofs.Calculus.{lands_then, lands_give, lands_as, lands_end}
+use Rattle.fsl_meaning.proofs.Calculus.{lands_then, lands_give, lands_end}
 use Rattle.fsl_meaning.proofs.Heaps.{same_rung_is, same_rung_self}
 use Rattle.fsl_meaning.proofs.Owned.{each_less}
 use Rattle.fsl_meaning.proofs.Joining.{lands_chunks}
 use Rattle.fsl_asserted.specs.Needs.{Need, asks}
 use Rattle.fsl_asserted.specs.Carried.{moved, claim_at, carried, IsPlain}
-use Rattle.fsl_asserted.specs.Fitting.{Gives}
 use Rattle.fsl_asserted.proofs.Asking.{some_is}
 use Rattle.fsl_asserted.proofs.Carried.{asks_carried}
 use Rattle.fsl_asserted.proofs.Trees.{produce_fits, consume_fits}
@@ -194,7 +193,7 @@ acquire_fits {g = g} {slots = slots} {v = v} {s = s} {h = h} knows bounds fit =
     let taken : State = record s { chunks = filter (λ c. not (is_at Down c)) s.chunks } in
     let left : Fits slots (All g (without Down h)) v taken = record { one = fit.one; facts = fit.facts; env = fit.env; owns = record { each = each_without g s.next v Down s.chunks h fit.owns.each } } in
     lands_end _ (lands_chunks g {v = v} {s = taken} (map (at_rung Plain) (filter (is_at Down) s.chunks)) (lifted Down Plain h) (without Down h) (acquired h) left
-      (each_lifted g s.next v Down Plain s.chunks h knows fit.owns.each) (λ k. line_self (acquired h k)) (acquired_bounds g.truth h bounds))
+    (each_lifted g s.next v Down Plain s.chunks h knows fit.owns.each) (λ k. line_self (acquired h k)) (acquired_bounds g.truth h bounds))
 
 -- ---- releasing
 
@@ -224,8 +223,8 @@ same_tokens h l n b e k = let d : h ≡ n + l = omega arith in subst (λ (z : �
 apart_bounds : (t : Truth) (h left need : Heap) → ((k : Key) → h k ≡ left k + need k) → IsBounded t h → IsBounded t (λ k. moved Plain Up need k + left k)
 apart_bounds t h left need parts b = record {
   cells = λ l. line_apart (h (key.Cell Plain l)) (h (key.Cell Up l)) (h (key.Cell Down l)) (h (key.Cell Msg l)) (left (key.Cell Plain l)) (left (key.Cell Up l)) (left (key.Cell Down l)) (left (key.Cell Msg l))
-    (need (key.Cell Plain l)) (2 ^ 63) (b.cells l) (parts (key.Cell Plain l)) (line_left (h (key.Cell Up l)) (left (key.Cell Up l)) (need (key.Cell Up l)) (parts (key.Cell Up l)))
-    (line_left (h (key.Cell Down l)) (left (key.Cell Down l)) (need (key.Cell Down l)) (parts (key.Cell Down l))) (line_left (h (key.Cell Msg l)) (left (key.Cell Msg l)) (need (key.Cell Msg l)) (parts (key.Cell Msg l)));
+      (need (key.Cell Plain l)) (2 ^ 63) (b.cells l) (parts (key.Cell Plain l)) (line_left (h (key.Cell Up l)) (left (key.Cell Up l)) (need (key.Cell Up l)) (parts (key.Cell Up l)))
+      (line_left (h (key.Cell Down l)) (left (key.Cell Down l)) (need (key.Cell Down l)) (parts (key.Cell Down l))) (line_left (h (key.Cell Msg l)) (left (key.Cell Msg l)) (need (key.Cell Msg l)) (parts (key.Cell Msg l)));
   tokens = λ c. same_tokens (h (key.Tokens c)) (left (key.Tokens c)) (need (key.Tokens c)) (t.bank c) (parts (key.Tokens c)) (b.tokens c);
   alone = λ c. line_same (h (key.Bank c)) (left (key.Bank c)) (need (key.Bank c)) 1 (parts (key.Bank c)) (b.alone c);
   once = λ l p. line_same (h (key.Permission l p)) (left (key.Permission l p)) (need (key.Permission l p)) 1 (parts (key.Permission l p)) (b.once l p);

@@ -3,3 +3,7 @@ pub mod Banks
 pub mod Fences
 pub mod Calls
 pub mod Parts
+pub mod Atomics
+pub mod Loads
+pub mod Gaining
+pub mod Threads

@@ -10,26 +10,26 @@ use Rattle.fsl_core.specs.declared.expr.Expr.{Expr}
 use Rattle.fsl_core.specs.declared.mode.Rung.{Rung}
 use Rattle.fsl_core.specs.declared.mode.Rung.TheVariants.{Plain, Up, Down, Msg}
 use Rattle.fsl_core.specs.declared.verdict.Kind.TheVariants as kind
-use Rattle.fsl_core.specs.logic.States.{Env, State, set, here}
+use Rattle.fsl_core.specs.logic.States.{State, set}
 use Rattle.fsl_core.specs.logic.Terms.{expr_of}
 use Rattle.fsl_core.specs.logic.Deciding.{cond_of}
-use Rattle.fsl_core.specs.logic.Chunks.{Found, Cell, cell_chunk, cell_at}
+use Rattle.fsl_core.specs.logic.Chunks.{Found, Cell, cell_at}
 use Rattle.fsl_core.specs.logic.Joining.{full}
 use Rattle.fsl_core.specs.logic.Accesses.{new_address, alloc_na, load_na, whole_cell, store_na, free}
 use Rattle.fsl_core.specs.logic.Paths.{set_to, print, assert}
 use Rattle.fsl_lin.specs.Combination.{Combination, constant}
 use Rattle.fsl_lin.specs.Numbers.{Numbers}
-use Rattle.fsl_meaning.specs.Means.{Means, AllMean, IsKnown, Grows}
-use Rattle.fsl_meaning.specs.Heaps.{Key, Key as key, Heap, some_of, less, Holds, Truth, Ground, shares, IsBounded, KnowsMore, Agrees}
+use Rattle.fsl_meaning.specs.Means.{Means, IsKnown}
+use Rattle.fsl_meaning.specs.Heaps.{Key as key, Heap, some_of, less, Holds, Truth, Ground, IsBounded, KnowsMore, Agrees}
 use Rattle.fsl_meaning.specs.States.{OwnsCell, Stands, Owning, Owns, All, Opened, Fits}
 use Rattle.fsl_meaning.specs.Branches.{Lands, Tells}
-use Rattle.fsl_meaning.proofs.Terms.{means_more, means_as, means_constant, known_more}
-use Rattle.fsl_meaning.proofs.Calculus.{lands_then, lands_give, lands_as, lands_end, tells_then, tells_on, tells_as, tells_give, tells_end, tells_some, tells_lands}
+use Rattle.fsl_meaning.proofs.Terms.{means_more, means_as, means_constant}
+use Rattle.fsl_meaning.proofs.Calculus.{lands_then, lands_give, lands_as, lands_end, tells_then, tells_on, tells_give, tells_some, tells_lands}
 use Rattle.fsl_meaning.proofs.Facts.{Lasts, proved_equal, lands_at_most, lands_symbol}
 use Rattle.fsl_meaning.proofs.Deciding.{equal, is_equal, tells_demand_cond}
 use Rattle.fsl_meaning.proofs.Heaps.{share_at}
 use Rattle.fsl_meaning.proofs.Kept.{owns_kept}
-use Rattle.fsl_meaning.proofs.Owned.{all_lasts, fits_less, fits_back, IsOut, tells_find_or, lands_put, lands_take, lands_add, line_less}
+use Rattle.fsl_meaning.proofs.Owned.{all_lasts, fits_less, fits_back, tells_find_or, lands_take, lands_add, line_less}
 use Rattle.fsl_meaning.proofs.Readings.{cell_read}
 use Rattle.fsl_meaning.proofs.Slots.{all_set}
 use Rattle.fsl_asserted.specs.Exact.{exact, exact_cond}
@@ -205,7 +205,7 @@ store_fits {g = g} {slots = slots} {h = h} {v = v} {s = s} at e bounds fit =
     let agrees = stored_agrees g.truth o.rest loc x (none_left o.mine o.rest h loc bounds o.holds o.whole) in
     let others : Owns later s.next v (f.before ++ f.behind) o.rest = owns_kept later (knows_same g (storing loc x g.truth) o.rest) agrees o.fits.owns.others in
     let opened : Fits slots (Opened later f.before (chunk.Points Plain f.is.at f.is.share (Some y)) f.behind o.mine o.rest) v
-        (record s { chunks = f.before ++ chunk.Points Plain f.is.at f.is.share (Some y) ∷ f.behind }) = record {
+    (record s { chunks = f.before ++ chunk.Points Plain f.is.at f.is.share (Some y) ∷ f.behind }) = record {
       one = fit.one;
       facts = fit.facts;
       env = fit.env;

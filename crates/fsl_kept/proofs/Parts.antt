@@ -1,5 +1,5 @@
 -- All parts of an invariant, produced and consumed.
-use Rattle.std.proofs.Common.{◌≡◌, ℕ, zero, suc, ◌+◌, ◌≤◌, List, [], ◌∷◌, ◌++◌, map, Option, Some, None, ℤ, slice_get, refl, ap, sym, subst, ◌∙◌, arith}
+use Rattle.std.proofs.Common.{◌≡◌, ℕ, zero, suc, ◌+◌, ◌≤◌, List, [], ◌∷◌, ◌++◌, map, Option, Some, ℤ, slice_get, refl, sym, subst, ◌∙◌, arith}
 use Rattle.fsl_core.specs.declared.assertion.Asrt.{Asrt}
 use Rattle.fsl_core.specs.declared.declaration.Inv.{Inv}
 use Rattle.fsl_core.specs.declared.mode.Rung.{Rung}
@@ -26,7 +26,6 @@ use Rattle.fsl_asserted.proofs.Asking.{some_is, value_asked, value_is, known_lef
 use Rattle.fsl_asserted.proofs.Producing.{more_of}
 use Rattle.fsl_asserted.proofs.Trees.{produce_fits, consume_fits}
 use Rattle.fsl_kept.specs.Parts.{Part, parts_by, parts_in, parts_asked, EachPiece, ArePieces}
-use Rattle.fsl_kept.specs.Results.{GivesUp}
 
 -- ---- the pieces of a location
 
@@ -35,7 +34,7 @@ each_piece : (n : ℕ) (v : Numbers) (slots : ℕ) (ts : List Combination) (xs :
 each_piece n v slots ts xs [] h = tt
 each_piece n v slots ts xs (a ∷ items) h = (refl, all_padded slots h, each_piece n v slots ts xs items h)
 
-abbrev read_inv : Inv → Invariant
+abbrev pub read_inv : Inv → Invariant
 read_inv inv = record { slots = inv.slots; parts = map asrt_of inv.parts }
 
 pieces_are : (n : ℕ) (v : Numbers) (invs : List Inv) (i : ℕ) (args : List Combination) (t : Combination) (xs : List ℤ) (x : ℤ) → AllMean n v (args ++ t ∷ []) (xs ++ x ∷ [])
@@ -84,9 +83,9 @@ each_produced g {slots = slots} {v = v} {s = s} rung (x ∷ xs) (p ∷ ps) n h m
     let room = subst (λ (m : Need). Holds m.heap h more) (sym same) holds in
     let mid : Heap = λ k. a.heap k + h k in
     let first : Lands s.next v (Gains g slots mid a.env) (x.asrt.produce rung x.env s) =
-      subst (λ (q : Assertion). Lands s.next v (Gains g slots mid a.env) (q.produce rung x.env s)) (sym each.0)
-      (produce_fits g p.asrt rung a h mid slots v s x.env p.numbers fit each.1 i.is (known_left g a.claims b.claims all) (λ k. line_self (mid k))
-        (bounded_less mid (λ k. line_middle (a.heap k) (b.heap k) (h k) (more k) (room k)) bounds)) in
+    subst (λ (q : Assertion). Lands s.next v (Gains g slots mid a.env) (q.produce rung x.env s)) (sym each.0)
+    (produce_fits g p.asrt rung a h mid slots v s x.env p.numbers fit each.1 i.is (known_left g a.claims b.claims all) (λ k. line_self (mid k))
+    (bounded_less mid (λ k. line_middle (a.heap k) (b.heap k) (h k) (more k) (room k)) bounds)) in
     lands_then first (λ e t w r f.
     each_produced g rung xs ps b mid more f.fits (each_piece_more s.next t.next v w xs ps r each.2) j.is (known_right g a.claims b.claims all)
     (λ k. line_rest (a.heap k) (b.heap k) (h k) (more k) (room k)) bounds)
@@ -120,8 +119,8 @@ each_consumed g rung (x ∷ xs) [] h fit each = absurd each
 each_consumed g {slots = slots} {v = v} {s = s} rung (x ∷ xs) (p ∷ ps) h fit each =
     let asked = asks g.truth p.asrt rung p.numbers in
     let first : Lands s.next v (Gives g slots asked h) (x.asrt.consume mood.Cond rung x.env s) =
-      subst (λ (q : Assertion). Lands s.next v (Gives g slots asked h) (q.consume mood.Cond rung x.env s)) (sym each.0)
-      (consume_fits g p.asrt mood.Cond rung h slots v s x.env p.numbers fit each.1) in
+    subst (λ (q : Assertion). Lands s.next v (Gives g slots asked h) (q.consume mood.Cond rung x.env s)) (sym each.0)
+    (consume_fits g p.asrt mood.Cond rung h slots v s x.env p.numbers fit each.1) in
     lands_then first (λ e t w r a.
     lands_as (each_consumed g rung xs ps a.left a.fits (each_piece_more s.next t.next v w xs ps r each.2)) (λ u t2 w2 r2 b. record {
       need = both_asked a.need b.need;

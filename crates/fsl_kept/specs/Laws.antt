@@ -1,37 +1,44 @@
 -- The laws of rules, as words. Each says of a state that fits the heap h: some branch of the rule goes on with a state
 -- that fits what the event leaves, or some branch fails.
-use Rattle.std.specs.Prelude.{◌≡◌, ℕ, Bool, true, List, [], ◌∷◌, ◌++◌, length, Option, Some, ℤ, pos, ◌+ℤ◌, ◌≤ℤ◌, ◌^◌, slice_set}
+use Rattle.std.specs.Prelude.{◌≡◌, ℕ, Bool, true, List, [], ◌∷◌, ◌++◌, length, map, Option, Some, ℤ, pos, ◌+ℤ◌, ◌≤ℤ◌, ◌^◌, slice_set}
+use Rattle.fsl_core.specs.declared.act.Called.{Called}
 use Rattle.fsl_core.specs.declared.act.Step.{Step}
 use Rattle.fsl_core.specs.declared.assertion.Asrt.{Asrt}
+use Rattle.fsl_core.specs.declared.assertion.Inst.{Inst}
 use Rattle.fsl_core.specs.declared.declaration.Inv.{Inv}
 use Rattle.fsl_core.specs.declared.declaration.Proc.{Proc}
 use Rattle.fsl_core.specs.declared.expr.Cond.{Cond}
 use Rattle.fsl_core.specs.declared.expr.Expr.{Expr}
 use Rattle.fsl_core.specs.declared.mode.Mode.{Mode}
 use Rattle.fsl_core.specs.declared.mode.Rung.TheVariants.{Plain, Up, Down}
+use Rattle.fsl_core.specs.Programs.{Program}
 use Rattle.fsl_core.specs.Modes.{acquires, releases}
 use Rattle.fsl_core.specs.logic.States.{Env, State}
 use Rattle.fsl_core.specs.logic.Terms.{expr_of}
 use Rattle.fsl_core.specs.logic.Deciding.{cond_of}
 use Rattle.fsl_core.specs.logic.Assertions.{asrt_of}
-use Rattle.fsl_core.specs.logic.Locations.{contract_of}
-use Rattle.fsl_core.specs.logic.Accesses.{alloc_na, load_na, store_na, free}
+use Rattle.fsl_core.specs.logic.Locations.{contract_of, setting_of}
+use Rattle.fsl_core.specs.logic.Accesses.{gaining, alloc_na, load_na, store_na, free, alloc_at, load_atomic, store_atomic}
+use Rattle.fsl_core.specs.logic.Producing.{inst_of}
 use Rattle.fsl_core.specs.logic.Tokens.{new_bank, step_of, token_step}
 use Rattle.fsl_core.specs.logic.Fences.{fence}
-use Rattle.fsl_core.specs.logic.Calls.{enter, finish, new_result, set_result, give_pre, gain_post}
+use Rattle.fsl_core.specs.logic.Calls.{enter, finish, new_result, set_result, give_pre, gain_post, Running, call_of, with_args, start_each, join_each}
 use Rattle.fsl_core.specs.logic.Paths.{set_to, assert, round, give_inv}
 use Rattle.fsl_lin.specs.Combination.{Combination}
 use Rattle.fsl_lin.specs.Numbers.{Numbers}
 use Rattle.fsl_meaning.specs.Means.{Means, AllMean, padded_numbers}
-use Rattle.fsl_meaning.specs.Heaps.{Key, Cell, Bank, Heap, some_of, less, Holds, IsInit, Ground, Knows, AllKnown, IsBounded}
+use Rattle.fsl_meaning.specs.Heaps.{Cell, Bank, Heap, some_of, less, Holds, IsInit, MayWrite, Ground, Knows, AllKnown, IsBounded, KnowsMore, Agrees}
 use Rattle.fsl_meaning.specs.States.{All, Fits}
-use Rattle.fsl_meaning.specs.Branches.{Lands}
-use Rattle.fsl_asserted.specs.Exact.{exact, exact_cond}
+use Rattle.fsl_meaning.specs.Branches.{Lands, Tells}
+use Rattle.fsl_asserted.specs.Exact.{exact, exact_all, exact_cond}
 use Rattle.fsl_asserted.specs.Needs.{Need, bank_number, asks}
 use Rattle.fsl_asserted.specs.Carried.{IsPlain}
 use Rattle.fsl_asserted.specs.Fitting.{Gives}
+use Rattle.fsl_kept.specs.Atomics.{leave_heap, leave_claim, StoresAtomic, Pool, pooled, AllReady, HasInv, LoadsAtomic}
 use Rattle.fsl_kept.specs.Calls.{ResultMeans, result_number, numbers_with, numbers_set, renewed}
 use Rattle.fsl_kept.specs.Changes.{grounded, storing}
+use Rattle.fsl_kept.specs.Parts.{parts_in}
+use Rattle.fsl_kept.specs.Threads.{Started, started, AllRun, all_needs, EachEnsures, Starts}
 use Rattle.fsl_kept.specs.Results.{LoadsCell, Stores, Steps, Fenced, GivesUp}
 
 -- ---- variables
@@ -128,3 +135,39 @@ RoundFits = (g : Ground) (slots : List ℤ) (h more : Heap) (v : Numbers) (s : S
 abbrev pub InvFits : Type 0
 InvFits = (g : Ground) (slots : List ℤ) (h : Heap) (v : Numbers) (s : State) (inv : Asrt) → Fits slots (All g h) v s
     → Lands s.next v (λ u t w. GivesUp g slots (asks g.truth inv Plain slots) h t w) (give_inv (asrt_of inv) s)
+
+-- ---- atomic locations
+
+-- any address, with leave to write and to update or to read it
+abbrev pub AtomicAllocFits : Type 0
+AtomicAllocFits = (p : Program) (g : Ground) (slots : List ℤ) (h more : Heap) (v : Numbers) (s : State) (slot : ℕ) (rmw : Bool) (inst : Inst) (loc : ℤ) → Fits slots (All g h) v s → (pos 1 +ℤ pos 0) ≤ℤ loc
+    → Knows g (MayWrite loc inst.inv (exact_all inst.args slots)) → Knows g (leave_claim rmw loc inst.inv (exact_all inst.args slots)) → ((q : ℕ) → g.truth.out loc q ≡ [])
+    → Holds (leave_heap p rmw inst.inv loc) h more → Lands s.next v (λ u t w. Fits (slice_set slots slot loc) (All g more) w t) (alloc_at (setting_of asrt_of p) slot rmw (inst_of expr_of inst) s)
+
+-- all parts of the invariant at the value are given away: from plain by a releasing store, from up by a relaxed one
+abbrev pub AtomicStoreFits : Type 0
+AtomicStoreFits = (p : Program) (g later : Ground) (slots : List ℤ) (h : Heap) (v : Numbers) (s : State) (m : Mode) (at e : Expr) → KnowsMore g later h → Agrees g.truth later.truth h
+    → Knows later (IsInit Plain (exact at slots)) → Fits slots (All g h) v s
+    → Lands s.next v (λ u t w. StoresAtomic p g later m slots (exact at slots) (exact e slots) h t w) (store_atomic (setting_of asrt_of p) m (expr_of at) (expr_of e) s)
+
+-- any value y is read, and of what its message has the parts come for which there is a permission that doesn't exclude y
+abbrev pub AtomicLoadFits : Type 0
+AtomicLoadFits = (p : Program) (g : Ground) (slots : List ℤ) (h more : Heap) (v : Numbers) (s : State) (inv : ℕ) (xs : List ℤ) (slot : ℕ) (m : Mode) (at : Expr) (y : ℤ) (os : Pool) → HasInv g (exact at slots) inv xs
+    → AllReady g (gaining m) (exact at slots) y (parts_in p inv xs y) os more → Holds h (pooled os) more → IsBounded g.truth more → Fits slots (All g h) v s
+    → Lands s.next v (λ u t w. LoadsAtomic g (slice_set slots slot y) (exact at slots) y os more t w) (load_atomic (setting_of asrt_of p) slot m (expr_of at) s)
+
+-- ---- threads
+
+abbrev pub ArgsTell : Type 0
+ArgsTell = (p : Program) (g : Ground) (slots : List ℤ) (h : Heap) (v : Numbers) (s : State) (calls : List Called) → Fits slots (All g h) v s
+    → Tells s (λ rs. AllRun s.next v rs (started p slots calls)) (with_args (setting_of asrt_of p) (map (call_of expr_of) calls) s.env s)
+
+-- every `requires` is given away, and the frame stays
+abbrev pub StartsFit : Type 0
+StartsFit = (g : Ground) (slots : List ℤ) (h : Heap) (v : Numbers) (s : State) (xs : List Running) (ps : List Started) → Fits slots (All g h) v s → AllRun s.next v xs ps
+    → Lands s.next v (Starts g slots ps h) (start_each xs s)
+
+-- every `ensures` is gained, for any results
+abbrev pub JoinsFit : Type 0
+JoinsFit = (g : Ground) (slots : List ℤ) (h more : Heap) (v : Numbers) (s : State) (xs : List Running) (ps : List Started) (rs : List ℤ) (ns : List Need) → Fits slots (All g h) v s → AllRun s.next v xs ps
+    → EachEnsures g ps rs ns → Holds (all_needs ns) h more → IsBounded g.truth more → Lands s.next v (λ u t w. Fits slots (All g more) w t) (join_each xs s)

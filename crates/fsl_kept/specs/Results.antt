@@ -1,5 +1,5 @@
 -- What the rules leave behind: what was there, what was read, given or set apart, and that the state fits what is left.
-use Rattle.std.specs.Prelude.{◌≡◌, ℕ, ◌+◌, ◌-◌, ◌≤◌, ◌^◌, Bool, true, false, List, Option, Some, None, ℤ, pos, ◌+ℤ◌, ◌-ℤ◌, slice_set, if◌then◌else◌}
+use Rattle.std.specs.Prelude.{◌≡◌, ℕ, ◌+◌, ◌≤◌, ◌^◌, Bool, true, false, List, Option, Some, ℤ, pos, ◌+ℤ◌, ◌-ℤ◌, slice_set, if◌then◌else◌}
 use Rattle.fsl_core.specs.declared.assertion.Asrt.{Asrt}
 use Rattle.fsl_core.specs.declared.mode.Mode.{Mode}
 use Rattle.fsl_core.specs.declared.mode.Rung.TheVariants.{Plain, Up}

@@ -1,5 +1,5 @@
 //! What holds of every rule. Each call does nothing; its contract is a family of laws.
-ghost use Rattle.fsl_kept.specs.Laws.{SetFits, AssertFits, AllocFits, LoadFits, StoreFits, FreeFits, BankFits, StepFits, FenceFits, EnterFits, FinishFits, PreFits, ResultFits, PostFits, SetResultFits, RoundFits, InvFits};
+ghost use Rattle.fsl_kept.specs.Laws.{SetFits, AssertFits, AllocFits, LoadFits, StoreFits, FreeFits, BankFits, StepFits, FenceFits, EnterFits, FinishFits, PreFits, ResultFits, PostFits, SetResultFits, RoundFits, InvFits, AtomicAllocFits, AtomicStoreFits, AtomicLoadFits, ArgsTell, StartsFit, JoinsFit};
 
 /// Variables that are set, and conditions that are asserted.
 pub fn variables()
@@ -40,4 +40,18 @@ pub fn procedures()
 pub fn loops()
     ensures begins { RoundFits }
     ensures ends { InvFits }
+{}
+
+/// Accesses to atomic locations, in every mode.
+pub fn atomics()
+    ensures alloc { AtomicAllocFits }
+    ensures store { AtomicStoreFits }
+    ensures load { AtomicLoadFits }
+{}
+
+/// Threads that run side by side: their arguments, their start, and that they are joined.
+pub fn threads()
+    ensures args { ArgsTell }
+    ensures starts { StartsFit }
+    ensures joins { JoinsFit }
 {}

@@ -1,7 +1,7 @@
 -- The calculus of branches: a rule, and then another one.
-use Rattle.std.proofs.Common.{◌≡◌, ℕ, ◌⊎◌, inl, inr, Bool, true, false, List, [], ◌∷◌, ◌++◌, Option, Some, None, refl, ap, sym, subst, ◌∙◌, arith}
+use Rattle.std.proofs.Common.{◌≡◌, ℕ, inl, inr, Bool, true, false, List, [], ◌∷◌, ◌++◌, Option, Some, None, refl, ap, subst}
 use Rattle.fsl_core.specs.declared.verdict.Kind.{Kind}
-use Rattle.fsl_core.specs.logic.States.{State, goes, fails, Branch, Branches, Rule, ◌>>=◌, followed, give, look, demand, demand_some}
+use Rattle.fsl_core.specs.logic.States.{State, goes, fails, Branch, Branches, Rule, followed, look, demand, demand_some}
 use Rattle.fsl_lin.specs.Numbers.{Numbers}
 use Rattle.fsl_meaning.specs.Means.{Grows}
 use Rattle.fsl_meaning.specs.Branches.{Among, Lands, Lands as land, Tells, Tells as tell}

@@ -1,6 +1,5 @@
 -- Decisions: of their sides one has the true answer, and what it assumes lands.
-use Rattle.std.proofs.Common.{◌≡◌, ◌⊎◌, inl, inr, ℕ, Bool, true, false, not, ◌&&◌, ◌||◌, cond, List, [], ◌∷◌, ◌++◌, map, Option, Some, None, ℤ, pos, ◌+ℤ◌, ◌-ℤ◌, ◌≤ℤ◌, int_lt, int_le, if◌then◌else◌, refl, ap, sym, subst, ◌∙◌, arith}
-use Rattle.std.specs.List.{filter}
+use Rattle.std.proofs.Common.{◌≡◌, ◌⊎◌, inl, inr, ℕ, Bool, true, false, not, cond, List, [], ◌∷◌, map, ℤ, pos, ◌+ℤ◌, ◌-ℤ◌, ◌≤ℤ◌, int_lt, int_le, if◌then◌else◌, refl, ap, sym, subst, ◌∙◌, arith}
 use Rattle.std.specs.Ordering.{int_eq}
 use Rattle.std.proofs.lemmas.Int.{ints}
 use Rattle.std.proofs.lemmas.Bool.{or_cases}
@@ -10,18 +9,18 @@ use Rattle.fsl_core.specs.declared.expr.CmpOp.TheVariants as cmp_op
 use Rattle.fsl_core.specs.declared.verdict.Kind.{Kind}
 use Rattle.fsl_core.specs.declared.verdict.Kind.TheVariants as kind
 use Rattle.fsl_core.specs.Values.{compared}
-use Rattle.fsl_core.specs.logic.States.{Env, State, goes, give, done, Action}
+use Rattle.fsl_core.specs.logic.States.{Env, State, done}
 use Rattle.fsl_core.specs.logic.Terms.{Expression, term, terms}
-use Rattle.fsl_core.specs.logic.Deciding.{proves_at_most, proves_equal, proves_apart, assume_at_most, assume_equal, Side, side, known, decide_at_most, decide_equal, decide_unequal, decide, Condition, always, never, compares, sides, each_side, agrees, sides_of, decided, assume_cond, is_sure, demand_cond}
+use Rattle.fsl_core.specs.logic.Deciding.{proves_at_most, proves_equal, proves_apart, assume_at_most, assume_equal, Side, side, known, decide_at_most, decide_equal, decide, Condition, always, never, compares, sides, each_side, agrees, sides_of, decided, assume_cond, is_sure, demand_cond}
 use Rattle.fsl_lin.specs.Combination.{Combination}
 use Rattle.fsl_lin.specs.Numbers.{Numbers}
 use Rattle.fsl_lin.specs.declared.fact.Fact.{Fact}
-use Rattle.fsl_meaning.specs.Means.{Means, AllMean, HoldAll, Grows}
+use Rattle.fsl_meaning.specs.Means.{Means, AllMean, HoldAll}
 use Rattle.fsl_meaning.specs.States.{Owning, Fits}
 use Rattle.fsl_meaning.specs.Branches.{Among, Lands, Tells}
 use Rattle.fsl_meaning.specs.Deciding.{IsRead, IsJudged}
 use Rattle.fsl_meaning.proofs.Terms.{all_none, all_one}
-use Rattle.fsl_meaning.proofs.Calculus.{lands_then, lands_give, lands_left, lands_right, tells_then, tells_on, tells_as, tells_give, tells_look, tells_demand, tells_some}
+use Rattle.fsl_meaning.proofs.Calculus.{lands_then, lands_give, lands_left, lands_right, tells_then, tells_on, tells_as, tells_give, tells_demand, tells_some}
 use Rattle.fsl_meaning.proofs.Facts.{proved_at_most, proved_equal, lands_at_most, lands_equal}
 
 -- ---- terms of expressions
@@ -115,7 +114,7 @@ proved_apart {fs = fs} {a = a} {b = b} {x = x} {y = y} one hold h k p e =
 equal_by : {slots : List ℤ} {own : Owning} {v : Numbers} {s : State} {x y : ℤ} (a b : Combination) → Fits slots own v s → Means s.next v a x → Means s.next v b y
     → (p : Bool) → proves_equal s.facts a b ≡ p → (q : Bool) → proves_apart s.facts a b ≡ q
     → Picked slots own v s (int_eq x y)
-      (if p then known true else if q then known false else side true (assume_equal a b) ∷ side false (assume_at_most a (pos 1) b) ∷ side false (assume_at_most b (pos 1) a) ∷ [])
+    (if p then known true else if q then known false else side true (assume_equal a b) ∷ side false (assume_at_most a (pos 1) b) ∷ side false (assume_at_most b (pos 1) a) ∷ [])
 equal_by {x = x} {y = y} a b f h k true e q d = picked_known (int_eq x y) true f (sym (is_equal x y (proved_equal f.one f.facts h k e)))
 equal_by {x = x} {y = y} a b f h k false e true d = picked_known (int_eq x y) false f (sym (not_equal x y (proved_apart f.one f.facts h k d)))
 equal_by {x = x} {y = y} a b f h k false e false d =
@@ -139,7 +138,7 @@ picked_equal {s = s} a b f h k = equal_by a b f h k (proves_equal s.facts a b) r
 unequal_by : {slots : List ℤ} {own : Owning} {v : Numbers} {s : State} {x y : ℤ} (a b : Combination) → Fits slots own v s → Means s.next v a x → Means s.next v b y
     → (p : Bool) → proves_equal s.facts a b ≡ p → (q : Bool) → proves_apart s.facts a b ≡ q
     → Picked slots own v s (not (int_eq x y))
-      (if p then known false else if q then known true else side true (assume_at_most a (pos 1) b) ∷ side true (assume_at_most b (pos 1) a) ∷ side false (assume_equal a b) ∷ [])
+    (if p then known false else if q then known true else side true (assume_at_most a (pos 1) b) ∷ side true (assume_at_most b (pos 1) a) ∷ side false (assume_equal a b) ∷ [])
 unequal_by {x = x} {y = y} a b f h k true e q d = picked_known (not (int_eq x y)) false f (ap not (sym (is_equal x y (proved_equal f.one f.facts h k e))))
 unequal_by {x = x} {y = y} a b f h k false e true d = picked_known (not (int_eq x y)) true f (ap not (sym (not_equal x y (proved_apart f.one f.facts h k d))))
 unequal_by {x = x} {y = y} a b f h k false e false d =

@@ -1,5 +1,5 @@
 -- Facts that are proved and facts that are assumed, and new symbols.
-use Rattle.std.proofs.Common.{◌≡◌, ℕ, zero, suc, ◌+◌, ◌<◌, ◌≤◌, Bool, true, false, nat_lt, List, [], ◌∷◌, ℤ, pos, ◌+ℤ◌, ◌-ℤ◌, ◌≤ℤ◌, if◌then◌else◌, refl, ap, sym, subst, ◌∙◌, arith}
+use Rattle.std.proofs.Common.{◌≡◌, ℕ, ◌+◌, ◌<◌, Bool, true, false, nat_lt, List, [], ◌∷◌, ℤ, pos, ◌+ℤ◌, ◌-ℤ◌, ◌≤ℤ◌, if◌then◌else◌, refl, sym, subst, ◌∙◌, arith}
 use Rattle.std.proofs.lemmas.Int.{ints}
 use Rattle.fsl_core.specs.declared.chunk.Chunk.{Chunk}
 use Rattle.fsl_core.specs.declared.verdict.Kind.TheVariants as kind
@@ -8,7 +8,7 @@ use Rattle.fsl_core.specs.logic.Deciding.{proves_at_most, proves_equal, has_room
 use Rattle.fsl_lin.specs.Combination.{Combination, plus, minus, constant, symbol}
 use Rattle.fsl_lin.specs.Numbers.{Numbers, part}
 use Rattle.fsl_lin.specs.Facts.{absurd_facts}
-use Rattle.fsl_lin.specs.Values.{value_of, Holds, AllHold}
+use Rattle.fsl_lin.specs.Values.{value_of, Holds}
 use Rattle.fsl_lin.specs.declared.fact.Fact.{Fact}
 use Rattle.fsl_lin.specs.declared.fact.Fact.TheVariants.{Le, Is}
 use Rattle.fsl_meaning.specs.Means.{Extends, Means, HoldAll, Grows}

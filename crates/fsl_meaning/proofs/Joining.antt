@@ -1,27 +1,27 @@
 -- What joins the chunks of a state: the state then fits the heap with what came.
-use Rattle.std.proofs.Common.{◌≡◌, ℕ, ◌+◌, ◌≤◌, ◌^◌, Bool, true, false, List, [], ◌∷◌, ◌++◌, Option, Some, None, ℤ, pos, ◌+ℤ◌, ◌≤ℤ◌, refl, ap, sym, subst, ◌∙◌, arith}
+use Rattle.std.proofs.Common.{◌≡◌, ℕ, ◌+◌, ◌≤◌, ◌^◌, Bool, true, false, List, [], ◌∷◌, Option, Some, None, ℤ, pos, ◌+ℤ◌, ◌≤ℤ◌, refl, ap, sym, subst, arith}
 use Rattle.std.proofs.lemmas.Int.{ints}
 use Rattle.fsl_core.specs.declared.chunk.Chunk.{Chunk}
 use Rattle.fsl_core.specs.declared.chunk.Chunk.TheVariants as chunk
 use Rattle.fsl_core.specs.declared.mode.Rung.{Rung}
 use Rattle.fsl_core.specs.declared.mode.Rung.TheVariants.{Plain, Up, Down, Msg}
 use Rattle.fsl_core.specs.declared.verdict.Kind.TheVariants as kind
-use Rattle.fsl_core.specs.logic.States.{State, done, ◌>>◌}
+use Rattle.fsl_core.specs.logic.States.{State, ◌>>◌}
 use Rattle.fsl_core.specs.logic.Terms.{narrow, fitting}
-use Rattle.fsl_core.specs.logic.Chunks.{Found, first, find, Cell, Leave, leave, Count, cell_chunk, cell_at, init_at, rel_of, rmw_of, tokens_of, authority_of}
+use Rattle.fsl_core.specs.logic.Chunks.{Found, first, Cell, Leave, Count, cell_chunk, cell_at, init_at, rel_of, rmw_of, tokens_of, authority_of}
 use Rattle.fsl_core.specs.logic.Joining.{full, nought, assume_share, assume_same, known_of, join_cell, add_cell, produce_cell, add_once, produce_init, produce_rel, produce_rmw, assume_count, count_in, join_tokens, produce_tokens, assume_alone, counted, assume_counts, produce_authority, produce_chunk, produce_chunks}
 use Rattle.fsl_lin.specs.Combination.{Combination, constant, is_narrow}
 use Rattle.fsl_lin.specs.Numbers.{Numbers}
-use Rattle.fsl_meaning.specs.Means.{Means, IsSaid, IsKnown, Grows}
-use Rattle.fsl_meaning.specs.Heaps.{Key, Key as key, Heap, Holds, Truth, Ground, Claim, MayWrite, MayUpdate, IsBounded}
+use Rattle.fsl_meaning.specs.Means.{Means, IsKnown}
+use Rattle.fsl_meaning.specs.Heaps.{Key, Key as key, Heap, Holds, Truth, Ground, MayWrite, MayUpdate, IsBounded}
 use Rattle.fsl_meaning.specs.States.{OwnsCell, OwnsTokens, OwnsBank, KnowsInit, KnowsLeave, Stands, EachStands, Owning, All, Fits}
 use Rattle.fsl_meaning.specs.Branches.{Lands, Tells}
 use Rattle.fsl_meaning.proofs.Terms.{grows_then, means_more, means_as, known_more, means_plus, means_constant}
-use Rattle.fsl_meaning.proofs.Calculus.{lands_then, lands_give, lands_as, lands_end, tells_then, tells_as, tells_look, tells_some}
+use Rattle.fsl_meaning.proofs.Calculus.{lands_then, lands_give, lands_end, tells_then, tells_as, tells_look, tells_some}
 use Rattle.fsl_meaning.proofs.Facts.{proved_equal, lands_at_most, lands_equal}
 use Rattle.fsl_meaning.proofs.Deciding.{lands_done}
 use Rattle.fsl_meaning.proofs.Heaps.{share_at}
-use Rattle.fsl_meaning.proofs.Owned.{stands_more, each_later, each_less, fits_less, IsOut, out_of, fits_back, lands_put, lands_add, line_less}
+use Rattle.fsl_meaning.proofs.Owned.{stands_more, each_later, fits_less, out_of, lands_put, lands_add, line_less}
 use Rattle.fsl_meaning.proofs.Readings.{cell_read, tokens_read, authority_read}
 
 pub narrow_is : (t u : Combination) (b : Bool) → is_narrow t ≡ b → narrow t ≡ Some u → t ≡ u
@@ -89,8 +89,8 @@ join_by {g = g} {h = h} {mine = mine} {more = more} {v = v} {s = s} rung c (Some
     let both : Holds (λ k. out.mine k + mine k) out.rest more = λ k. line_join (out.mine k) (out.rest k) (h k) (mine k) (more k) (out.holds k) (holds k) in
     let cell = key.Cell rung had.loc in
     let room : had.amount + own.amount ≤ 2 ^ 63 =
-      line_less (had.amount + own.amount) (more cell) (2 ^ 63) (line_two had.amount own.amount (out.mine cell) (mine cell) (out.rest cell) (more cell) had.there there (both cell))
-      (line_less (more cell) _ (2 ^ 63) (share_at more rung had.loc) (bounds.cells had.loc)) in
+    line_less (had.amount + own.amount) (more cell) (2 ^ 63) (line_two had.amount own.amount (out.mine cell) (mine cell) (out.rest cell) (more cell) had.there there (both cell))
+    (line_less (more cell) _ (2 ^ 63) (share_at more rung had.loc) (bounds.cells had.loc)) in
     tells_then _ (tells_fitting (means_plus had.share_is own.share_is)) (λ sum sum_is.
     lands_then (lands_at_most sum (pos 0) full out.fits sum_is (means_constant (pos (2 ^ 63))) (line_at_most (had.amount + own.amount) (2 ^ 63) room)) (λ u1 s1 w1 g1 f1.
     lands_then (lands_same f.is.value c.value (g.truth.value had.loc) f1 (known_more f.is.value (g.truth.value had.loc) g1 had.value_is) (known_more c.value (g.truth.value had.loc) g1 value_is)) (λ u2 s2 w2 g2 f2.
@@ -123,7 +123,7 @@ pub lands_cell : {g : Ground} {slots : List ℤ} {h mine : Heap} {v : Numbers} {
 lands_cell {g = g} {mine = mine} rung c more fit own holds bounds =
     let cell = key.Cell rung own.loc in
     let few : own.amount ≤ 2 ^ 63 = line_less own.amount (more cell) (2 ^ 63) (line_mine own.amount (mine cell) _ (more cell) own.there (holds cell))
-      (line_less (more cell) _ (2 ^ 63) (share_at more rung own.loc) (bounds.cells own.loc)) in
+    (line_less (more cell) _ (2 ^ 63) (share_at more rung own.loc) (bounds.cells own.loc)) in
     lands_then (lands_assume_share c.share fit own.share_is own.some few) (λ u t w r f. lands_add_cell rung c more f (stands_more g (cell_chunk rung c) mine r own) holds bounds)
 
 -- ---- what needs no count
@@ -184,13 +184,13 @@ tokens_by {g = g} {slots = slots} {h = h} {mine = mine} {more = more} {v = v} {s
     let one = key.Tokens own.number in
     tells_then _ (tells_fitting (means_plus had.count_is own.count_is)) (λ sum sum_is.
     lands_then (lands_put f (chunk.Tok f.is.bank sum) (λ q. out.mine q + mine q) more out.fits
-      (record { number = own.number; amount = had.amount + own.amount; bank_is = means_as same had.bank_is; count_is = sum_is; there = line_pieces had.amount own.amount (out.mine one) (mine one) there own.there }) both)
-      (λ u t w q fits. lands_give sum t (record {
-        amount = had.amount + own.amount;
-        sum_is = means_more q sum_is;
-        few = line_two had.amount own.amount (out.mine one) (mine one) (out.rest one) (more one) there own.there (both one);
-        fits = fits;
-      })))
+    (record { number = own.number; amount = had.amount + own.amount; bank_is = means_as same had.bank_is; count_is = sum_is; there = line_pieces had.amount own.amount (out.mine one) (mine one) there own.there }) both)
+    (λ u t w q fits. lands_give sum t (record {
+      amount = had.amount + own.amount;
+      sum_is = means_more q sum_is;
+      few = line_two had.amount own.amount (out.mine one) (mine one) (out.rest one) (more one) there own.there (both one);
+      fits = fits;
+    })))
 
 line_count : (k : ℕ) → (pos 0 +ℤ pos 0) ≤ℤ pos k
 line_count k = omega (arith, ints)
@@ -278,7 +278,7 @@ pub lands_authority : {g : Ground} {slots : List ℤ} {h mine : Heap} {v : Numbe
     → Lands s.next v (λ u t w. Fits slots (All g more) w t) (produce_authority bank n s)
 lands_authority {g = g} {h = h} {mine = mine} bank n more fit own holds bounds =
     lands_then (lands_at_most nought (pos 0) n fit (means_constant (pos 0)) own.count_is
-      (line_owned (more (key.Tokens own.number)) (g.truth.bank own.number) (bounds.tokens own.number))) (λ u1 s1 w1 g1 f1.
+    (line_owned (more (key.Tokens own.number)) (g.truth.bank own.number) (bounds.tokens own.number))) (λ u1 s1 w1 g1 f1.
     let own1 = stands_more g (chunk.Auth bank n) mine g1 own in
     lands_end _ (lands_then (alone_by bank n (first (authority_of bank s1.facts) s1.chunks) refl f1 own1 holds bounds) (λ u2 s2 w2 g2 f2.
     let own2 = stands_more g (chunk.Auth bank n) mine g2 own1 in
@@ -309,7 +309,7 @@ line_first a b p h m j k = omega arith
 pub bounded_less : {t : Truth} {more : Heap} (h : Heap) → ((k : Key) → h k ≤ more k) → IsBounded t more → IsBounded t h
 bounded_less {t = t} {more = more} h l b = record {
   cells = λ c. line_cells (h (key.Cell Plain c)) (h (key.Cell Up c)) (h (key.Cell Down c)) (h (key.Cell Msg c)) (more (key.Cell Plain c)) (more (key.Cell Up c)) (more (key.Cell Down c)) (more (key.Cell Msg c)) (2 ^ 63)
-    (l (key.Cell Plain c)) (l (key.Cell Up c)) (l (key.Cell Down c)) (l (key.Cell Msg c)) (b.cells c);
+      (l (key.Cell Plain c)) (l (key.Cell Up c)) (l (key.Cell Down c)) (l (key.Cell Msg c)) (b.cells c);
   tokens = λ c. line_tokens (h (key.Tokens c)) (more (key.Tokens c)) (t.bank c) (l (key.Tokens c)) (b.tokens c);
   alone = λ c. line_less (h (key.Bank c)) (more (key.Bank c)) 1 (l (key.Bank c)) (b.alone c);
   once = λ c p. line_less (h (key.Permission c p)) (more (key.Permission c p)) 1 (l (key.Permission c p)) (b.once c p);
@@ -321,5 +321,5 @@ lands_chunks g {s = s} [] part h more fit each holds bounds = lands_give tt s (f
 lands_chunks g (c ∷ cs) part h more fit each holds bounds =
     let mid : Heap = λ k. each.0 k + h k in
     lands_then (lands_chunk c each.0 mid fit each.3 (λ k. line_all (each.0 k + h k))
-      (bounded_less mid (λ k. line_first (each.0 k) (each.1 k) (part k) (h k) (more k) (each.2 k) (holds k)) bounds)) (λ u t w r f.
+    (bounded_less mid (λ k. line_first (each.0 k) (each.1 k) (part k) (h k) (more k) (each.2 k) (holds k)) bounds)) (λ u t w r f.
     lands_chunks g cs each.1 mid more f (each_later g cs each.1 r each.4) (λ k. line_rest (each.0 k) (each.1 k) (part k) (h k) (more k) (each.2 k) (holds k)) bounds)

@@ -1,5 +1,5 @@
 -- A state still fits where nothing changed of what it owns a part of, and what was known is.
-use Rattle.std.proofs.Common.{◌≡◌, ℕ, ◌+◌, ◌≤◌, true, List, [], ◌∷◌, Option, Some, None, ℤ, refl, ap, sym, subst, ◌∙◌, arith}
+use Rattle.std.proofs.Common.{◌≡◌, ℕ, ◌+◌, ◌≤◌, true, List, [], ◌∷◌, Option, Some, None, ℤ, sym, subst, arith}
 use Rattle.fsl_core.specs.declared.chunk.Chunk.{Chunk}
 use Rattle.fsl_core.specs.declared.chunk.Chunk.TheVariants as chunk
 use Rattle.fsl_core.specs.logic.States.{State}
@@ -73,8 +73,7 @@ each_kept : (g later : Ground) (n : ℕ) (v : Numbers) (cs : List Chunk) (h : He
 each_kept g later n v [] h k a o = tt
 each_kept g later n v (c ∷ cs) h k a o =
     let left : (q : Key) → o.0 q ≤ h q = λ q. line_left (o.0 q) (o.1 q) (h q) (o.2 q) in
-    let right : (q : Key) → o.1 q ≤ h q = λ q. line_right (o.0 q) (o.1 q) (h q) (o.2 q) in
-    (
+    let right : (q : Key) → o.1 q ≤ h q = λ q. line_right (o.0 q) (o.1 q) (h q) (o.2 q) in (
       o.0,
       o.1,
       o.2,

@@ -5,11 +5,11 @@ use Rattle.fsl_core.specs.declared.chunk.Chunk.TheVariants as chunk
 use Rattle.fsl_core.specs.declared.verdict.Kind.{Kind}
 use Rattle.fsl_core.specs.declared.verdict.Kind.TheVariants as kind
 use Rattle.fsl_core.specs.logic.States.{State, goes, fails, demand_some}
-use Rattle.fsl_core.specs.logic.Chunks.{Found, found, first, Reading, find, find_or, put, take, add}
+use Rattle.fsl_core.specs.logic.Chunks.{Found, found, first, Reading, find_or, put, take, add}
 use Rattle.fsl_lin.specs.Numbers.{Numbers}
 use Rattle.fsl_meaning.specs.Means.{Grows}
 use Rattle.fsl_meaning.specs.Heaps.{Key, Heap, Holds, Ground}
-use Rattle.fsl_meaning.specs.States.{Stands, EachStands, Owns, All, IsOpened, Opened, Fits}
+use Rattle.fsl_meaning.specs.States.{Stands, EachStands, Owns, All, Opened, Fits}
 use Rattle.fsl_meaning.specs.Branches.{Lands, Lands as land, Tells}
 use Rattle.fsl_meaning.proofs.Terms.{means_more, all_more, known_more}
 use Rattle.fsl_meaning.proofs.Calculus.{lands_give, tells_on, tells_as, tells_look, tells_some}

@@ -1,5 +1,5 @@
 -- What each reading of a chunk has read.
-use Rattle.std.proofs.Common.{◌≡◌, ℕ, ◌==◌, Bool, true, false, ◌&&◌, List, [], ◌∷◌, Option, Some, None, ℤ, pos, if◌then◌else◌, refl, ap, sym, subst, ◌∙◌}
+use Rattle.std.proofs.Common.{◌≡◌, ℕ, ◌==◌, Bool, true, false, ◌&&◌, List, [], ◌∷◌, Some, None, ℤ, pos, refl, ap, subst, ◌∙◌}
 use Rattle.std.proofs.lemmas.Bool.{and_parts, eqb-true}
 use Rattle.fsl_core.specs.declared.chunk.Chunk.{Chunk}
 use Rattle.fsl_core.specs.declared.chunk.Chunk.TheVariants as chunk
@@ -45,8 +45,7 @@ enough_read rung at k facts (chunk.Points r a share value) x h =
     let m : Cell = record { at = a; share = share; value = value } in
     let p = when_is (same_rung r rung && (proves_equal facts a at && proves_at_most facts k (pos 0) share)) m x h in
     let q = and_parts (same_rung r rung) (proves_equal facts a at && proves_at_most facts k (pos 0) share) p.0 in
-    let t = and_parts (proves_equal facts a at) (proves_at_most facts k (pos 0) share) q.1 in
-    (
+    let t = and_parts (proves_equal facts a at) (proves_at_most facts k (pos 0) share) q.1 in (
       ap (cell_chunk r) p.1 ∙ ap (λ (z : Rung). cell_chunk z x) (same_rung_is r rung q.0),
       subst (λ (z : Cell). proves_equal facts z.at at ≡ true) p.1 t.0,
       subst (λ (z : Cell). proves_at_most facts k (pos 0) z.share ≡ true) p.1 t.1,

@@ -1,9 +1,8 @@
 -- Environments: their terms mean the numbers of the variables.
-use Rattle.std.proofs.Common.{◌≡◌, ℕ, zero, suc, ◌+◌, ◌-◌, List, [], ◌∷◌, ◌++◌, length, get_or, replicate, ℤ, pos, refl, ap, sym, subst, ◌∙◌}
+use Rattle.std.proofs.Common.{◌≡◌, ℕ, zero, suc, ◌-◌, List, [], ◌∷◌, ◌++◌, length, get_or, replicate, ℤ, pos, refl, ap, subst}
 use Rattle.std.specs.Prelude.{slice_set}
 use Rattle.fsl_core.specs.logic.Joining.{nought}
 use Rattle.fsl_core.specs.logic.Locations.{padded}
-use Rattle.fsl_core.specs.logic.Terms.{last_or}
 use Rattle.fsl_lin.specs.Combination.{Combination, constant}
 use Rattle.fsl_lin.specs.Numbers.{Numbers}
 use Rattle.fsl_meaning.specs.Means.{Means, EachMeans, AllMean, padded_numbers}

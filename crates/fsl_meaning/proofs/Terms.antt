@@ -1,12 +1,10 @@
 -- What terms mean at later places of a path, and what sums, differences, products, numbers and symbols mean.
-use Rattle.std.proofs.Common.{◌≡◌, ℕ, zero, suc, ◌+◌, ◌<◌, ◌≤◌, ◌==◌, Bool, true, false, List, [], ◌∷◌, ◌++◌, Option, Some, None, ℤ, pos, ◌+ℤ◌, ◌-ℤ◌, ◌*ℤ◌, if◌then◌else◌, refl, ap, sym, subst, ◌∙◌, eqb, arith}
-use Rattle.std.proofs.lemmas.Bool.{eqb-true, ne_eqb}
+use Rattle.std.proofs.Common.{◌≡◌, ℕ, zero, suc, ◌+◌, ◌<◌, ◌==◌, List, [], ◌∷◌, ◌++◌, Option, Some, None, ℤ, pos, ◌+ℤ◌, ◌-ℤ◌, ◌*ℤ◌, if◌then◌else◌, refl, ap, sym, ◌∙◌, arith}
 use Rattle.fsl_lin.specs.Combination.{Combination, plus, minus, times, constant, symbol}
-use Rattle.fsl_lin.specs.Numbers.{Numbers, part}
-use Rattle.fsl_lin.specs.Values.{value_of}
+use Rattle.fsl_lin.specs.Numbers.{Numbers}
 use Rattle.fsl_lin.specs.declared.fact.Fact.{Fact}
 use Rattle.fsl_lin.proofs.Values.{value_of_plus, value_of_minus, value_of_times, value_of_constant, value_of_symbol}
-use Rattle.fsl_meaning.specs.Means.{Extends, Means, EachMeans, AllMean, IsSaid, IsKnown, HoldAll, Grows}
+use Rattle.fsl_meaning.specs.Means.{Extends, Means, EachMeans, AllMean, IsKnown, HoldAll, Grows}
 
 -- ---- places of a path
 

@@ -1,5 +1,5 @@
 -- What expressions and conditions are read as: numbers and truth values of the numbers of the variables.
-use Rattle.std.specs.Prelude.{◌≡◌, ℕ, Bool, true, false, List, Option, Some, ℤ, pos}
+use Rattle.std.specs.Prelude.{◌≡◌, ℕ, Bool, true, false, List, Some, ℤ, pos}
 use Rattle.fsl_core.specs.declared.expr.CmpOp.{CmpOp}
 use Rattle.fsl_core.specs.Values.{compared}
 use Rattle.fsl_core.specs.logic.States.{Env}
