@@ -1,6 +1,6 @@
 -- The faults of declarations and of lists of names only grow, and without faults there are as many slots and parts as
 -- were written.
-use Rattle.std.proofs.Common.{◌≡◌, ℕ, suc, ◌+◌, false, List, [], ◌∷◌, length, nat_le, is_some, Option, refl, ap, arith}
+use Rattle.std.proofs.Common.{◌≡◌, ℕ, suc, ◌+◌, false, List, [], ◌∷◌, length, is_some, Option, refl, ap, arith}
 use Rattle.std.proofs.lemmas.List.{length-map}
 use Rattle.fsl_core.specs.Programs.{Program}
 use Rattle.fsl_tree.specs.declared.declaration.Declaration.{Declaration}

@@ -1,8 +1,7 @@
 -- Without faults, the invariant or the procedure of a name stands where its number says, and is as its signature says.
-use Rattle.std.proofs.Common.{◌≡◌, ℕ, zero, suc, ◌+◌, Bool, true, false, true≢false, ◌&&◌, ◌||◌, ◌==◌, ◌⊎◌, inl, inr, ⊎_elim, cond, List, [], ◌∷◌, ◌++◌, length, length-append, slice_get, Option, Some, None, is_some, is_none, if◌then◌else◌, refl, ap, sym, ◌∙◌, subst, arith, eq-eqb}
+use Rattle.std.proofs.Common.{◌≡◌, ℕ, zero, suc, ◌+◌, Bool, true, false, true≢false, ◌&&◌, ◌||◌, ◌==◌, ◌⊎◌, inl, inr, ⊎_elim, List, [], ◌∷◌, ◌++◌, length, length-append, slice_get, Option, Some, None, is_some, is_none, if◌then◌else◌, refl, ap, sym, ◌∙◌, subst, arith, eq-eqb}
 use Rattle.std.proofs.lemmas.Bool.{and_from, and_parts, or_parts}
 use Rattle.std.proofs.lemmas.Slice.Eq.{bytes_eq-Decides}
-use Rattle.std.specs.Map.{lookup}
 use Rattle.std.specs.Str.{bytes_eq, is_utf8}
 use Rattle.fsl_core.specs.declared.assertion.Asrt.TheFolds.{fold-roll-Asrt}
 use Rattle.fsl_core.specs.declared.assertion.Asrt.TheOpen.{Asrt-F}
@@ -31,7 +30,7 @@ use Rattle.fsl_types.specs.Programs.{banks_among, declaration, declare_each, in_
 use Rattle.fsl_types.specs.Resolvers.{declared}
 use Rattle.fsl_types.proofs.AssertionsLemmas.{HasInvariants, IsInvariant, clause_fits}
 use Rattle.fsl_types.proofs.StatementsLemmas.{IsProcedure}
-use Rattle.fsl_types.proofs.ExpressionsLemmas.{Keeps, noted_keeps}
+use Rattle.fsl_types.proofs.ExpressionsLemmas.{noted_keeps}
 use Rattle.fsl_types.proofs.ResolverLemmas.{next_number}
 use Rattle.fsl_types.proofs.ScopedDeclarations.{procedure_agrees}
 use Rattle.fsl_types.proofs.TableLemmas.{found_either, found_kept, found_new}

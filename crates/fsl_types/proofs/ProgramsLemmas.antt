@@ -1,11 +1,11 @@
 -- The program of a tree without faults is well formed: its invariants and procedures fit, their variables are scoped,
 -- and the first procedure `main` has neither parameters nor `requires`.
 use Rattle.std.proofs.Common.{◌≡◌, ℕ, zero, suc, ◌+◌, if◌then◌else◌, Bool, true, false, true≢false, IsTrue, List, [], ◌∷◌, ◌++◌, codes, slice_get, nat_lt, Option, Some, None, refl, ap, sym, ◌∙◌, arith}
-use Rattle.std.proofs.lemmas.Bool.{and_from, and_parts, ltb-true, not-false, or_left, or_right}
+use Rattle.std.proofs.lemmas.Bool.{and_from, and_parts, ltb-true, not-false}
 use Rattle.std.proofs.lemmas.List.Folds.{list_all-append}
 use Rattle.std.proofs.lemmas.Slice.Eq.{bytes_eq-Decides}
 use Rattle.std.proofs.lemmas.Str.{IsUtf8-from_ascii, is_utf8-from_IsUtf8}
-use Rattle.std.specs.List.{list_all, list_any}
+use Rattle.std.specs.List.{list_all}
 use Rattle.std.specs.Str.{IsAscii, bytes_eq, is_utf8}
 use Rattle.fsl_core.specs.declared.assertion.Asrt.{Asrt}
 use Rattle.fsl_core.specs.declared.declaration.Proc.{Proc}

@@ -46,7 +46,7 @@ use Rattle.fsl_types.specs.Faults.{is_due}
 use Rattle.fsl_types.specs.Given.{Given}
 use Rattle.fsl_types.specs.Names.{Names, found, slot_of, sort_of, text_at}
 use Rattle.fsl_types.specs.Resolvers.{declared}
-use Rattle.fsl_types.specs.Statements.{allocation_of, called, judged_allocation, judged_call, judged_right_side, judged_step, judged_step_line, judged_steps, right_side_of, statement, step_line_of, step_of, steps_of, stmt, updated}
+use Rattle.fsl_types.specs.Statements.{allocation_of, called, judged_allocation, judged_call, judged_right_side, judged_step, judged_step_line, judged_steps, right_side_of, step_line_of, step_of, steps_of, stmt, updated}
 use Rattle.fsl_types.proofs.ExpressionsLemmas.{Keeps, each_grows, number_grows, use_keeps}
 use Rattle.fsl_types.proofs.ScopedAssertions.{instance_read, use_given}
 use Rattle.fsl_types.proofs.ScopedExpressions.{Reaches, bank_seen, call_given, each_given, number_read}

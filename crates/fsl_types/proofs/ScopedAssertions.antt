@@ -1,8 +1,7 @@
 -- What is made of an assertion without faults stands in each scope that shows the names before it, and the scope behind
 -- it shows those behind it.
-use Rattle.std.proofs.Common.{◌≡◌, ℕ, ◌+◌, ◌<◌, ◌≤◌, Bool, true, false, true≢false, ◌&&◌, List, [], ◌∷◌, ◌++◌, Option, Some, None, map, length, take, refl, ap, sym, ◌∙◌, subst, arith, append-nil}
+use Rattle.std.proofs.Common.{◌≡◌, ℕ, ◌<◌, ◌≤◌, Bool, true, false, true≢false, ◌&&◌, List, [], ◌∷◌, Option, Some, None, map, length, refl, ap, sym, ◌∙◌, subst, arith, append-nil}
 use Rattle.std.proofs.lemmas.Bool.{and_from, and_parts, eqb-true, not-false}
-use Rattle.std.specs.List.{list_all}
 use Rattle.fsl_base.specs.declared.span.Span.{Span}
 use Rattle.fsl_core.specs.declared.assertion.Asrt.{Asrt, map-Asrt}
 use Rattle.fsl_core.specs.declared.assertion.Asrt.TheFolds.{fold-roll-Asrt}
@@ -10,9 +9,6 @@ use Rattle.fsl_core.specs.declared.assertion.Asrt.TheOpen.{Asrt-F}
 use Rattle.fsl_core.specs.declared.assertion.Asrt.TheVariants as asrt
 use Rattle.fsl_core.specs.declared.assertion.Asrt.TheVariants.{rolls-Emp, rolls-Fact, rolls-Points, rolls-Init, rolls-Rel, rolls-Acq, rolls-RmwAcq, rolls-Tok, rolls-Auth, rolls-Choice, rolls-Up, rolls-Down, rolls-Both}
 use Rattle.fsl_core.specs.declared.assertion.Asrt.TheViews.{roll-Asrt}
-use Rattle.fsl_core.specs.declared.assertion.Pat.{Pat}
-use Rattle.fsl_core.specs.declared.assertion.Pat.TheVariants as pat
-use Rattle.fsl_core.specs.declared.expr.Expr.{Expr}
 use Rattle.fsl_core.specs.declared.expr.Expr.TheOpen.{Expr-F}
 use Rattle.fsl_core.specs.declared.expr.Expr.TheVariants.{rolls-Const}
 use Rattle.fsl_core.specs.declared.scope.Scope.{Scope}
@@ -47,9 +43,9 @@ use Rattle.fsl_types.specs.Assertions.{Reads, apart, assertion, assertion_step, 
 use Rattle.fsl_types.specs.Expressions.{Judged, Sight, arguments_of, banks_of, condition_of, expression_of, fits, instance_of, judged_condition, judged_number, judged_use, numbered_arguments, signature_at}
 use Rattle.fsl_types.specs.Given.{Given}
 use Rattle.fsl_types.specs.Names.{Signatures, slot_at}
-use Rattle.fsl_types.specs.Resolvers.{declared, judging, leaving, noted}
+use Rattle.fsl_types.specs.Resolvers.{judging}
 use Rattle.fsl_types.proofs.AssertionsLemmas.{acquire_numbered, pattern_grows, permission_grows, share_grows}
-use Rattle.fsl_types.proofs.ExpressionsLemmas.{Grows, Keeps, condition_grows, noted_grows, noted_keeps, number_grows, use_grows, use_keeps}
+use Rattle.fsl_types.proofs.ExpressionsLemmas.{Grows, Keeps, condition_grows, noted_grows, number_grows, use_grows, use_keeps}
 use Rattle.fsl_types.proofs.ResolverLemmas.{one_more_top}
 use Rattle.fsl_types.proofs.ScopedExpressions.{Reaches, arguments_given, each_given, bank_seen, condition_tested, excluded_read, instance_given, number_read, reaches, read_layer}
 use Rattle.fsl_types.proofs.ScopedNames.{Behind, Shows, Stand, behind_both, behind_same, declared_behind, declared_longer, declared_shows, next_free, seen_other, shows_on, taken_back}
@@ -130,9 +126,10 @@ apart_binds reads_it binds setting resolver = taken_back resolver.names (reads_i
 pub apart_stands : (reads_it : Reads) → Binding reads_it → (setting : Setting) (in_loop : Bool) (resolver : Resolver) (total : ℕ) (scope : Scope)
     → Shows (stand_in setting in_loop) total scope resolver → (apart reads_it setting resolver).resolver.slots ≤ total → (apart reads_it setting resolver).resolver.faults ≡ []
     → ((asrt_scoped (apart reads_it setting resolver).made).fits scope ≡ true) × Shows (stand_in setting in_loop) total scope (apart reads_it setting resolver).resolver
-apart_stands reads_it binds setting in_loop resolver total scope shows room none =
-    ((binds.stands setting in_loop resolver total scope shows room none).fits,
-    shows_on (stand_in setting in_loop) total scope resolver _ shows (binds.longer setting resolver none) (apart_binds reads_it binds setting resolver))
+apart_stands reads_it binds setting in_loop resolver total scope shows room none = (
+  (binds.stands setting in_loop resolver total scope shows room none).fits,
+  shows_on (stand_in setting in_loop) total scope resolver _ shows (binds.longer setting resolver none) (apart_binds reads_it binds setting resolver),
+)
 
 -- ---- parts of assertions
 
@@ -178,21 +175,25 @@ pattern_stands : (given : Given) (setting : Setting) (in_loop : Bool) (value : P
     → (pat_fits scope (pattern given setting value resolver).made ≡ true)
     × Shows (stand_in setting in_loop) total (bound (pattern given setting value resolver).made scope) (pattern given setting value resolver).resolver
 pattern_stands given setting in_loop (patterns.Any place) resolver total scope shows room none = (refl, shows)
-pattern_stands given setting in_loop (patterns.Binder mark name) resolver total scope shows room none =
-    (ap is_free (next_free (stand_in setting in_loop) total scope 256 given.bytes name sorts.Local resolver shows none (omega arith) room),
-    declared_shows (stand_in setting in_loop) total scope 256 given.bytes name sorts.Local visible.Bound resolver shows none (omega arith) refl)
-pattern_stands given setting in_loop (patterns.Value value) resolver total scope shows room none =
-    (number_read scope _ (reaches (stand_in setting in_loop) total scope resolver given.bytes shows) value resolver.faults none,
-    shows_on (stand_in setting in_loop) total scope resolver _ shows (omega arith) refl)
+pattern_stands given setting in_loop (patterns.Binder mark name) resolver total scope shows room none = (
+  ap is_free (next_free (stand_in setting in_loop) total scope 256 given.bytes name sorts.Local resolver shows none (omega arith) room),
+  declared_shows (stand_in setting in_loop) total scope 256 given.bytes name sorts.Local visible.Bound resolver shows none (omega arith) refl,
+)
+pattern_stands given setting in_loop (patterns.Value value) resolver total scope shows room none = (
+  number_read scope _ (reaches (stand_in setting in_loop) total scope resolver given.bytes shows) value resolver.faults none,
+  shows_on (stand_in setting in_loop) total scope resolver _ shows (omega arith) refl,
+)
 
 relation_binds : (given : Given) (left : Expression) (how : Relation) → Binding (λ setting resolver. relation given setting left how resolver)
 relation_binds given left (relations.Compared comparison right) =
     judges (λ resolver. asrt.Fact (condition_of given.bytes resolver.names (conditions.Compared left comparison right)))
     (λ setting resolver. judged_condition (sight given setting.in_ensures resolver) (conditions.Compared left comparison right))
     (λ setting resolver. condition_grows (sight given setting.in_ensures resolver) (conditions.Compared left comparison right))
-    (λ setting in_loop resolver total scope shows none.
-        (_, sym (scoped_layer _ (Asrt-F.Fact _) (rolls-Fact _)),
-        condition_tested scope _ (reaches (stand_in setting in_loop) total scope resolver given.bytes shows) (conditions.Compared left comparison right) resolver.faults none))
+    (λ setting in_loop resolver total scope shows none. (
+      _,
+      sym (scoped_layer _ (Asrt-F.Fact _) (rolls-Fact _)),
+      condition_tested scope _ (reaches (stand_in setting in_loop) total scope resolver given.bytes shows) (conditions.Compared left comparison right) resolver.faults none,
+    ))
 relation_binds given left (relations.PointsTo arrow share value) = record {
   grows = λ setting resolver none.
       let seen = sight given setting.in_ensures resolver in
@@ -381,45 +382,53 @@ atom_layer_binds given (Atom-F.Down word start inside end) = modality_binds _ in
 atom_layer_binds given (Atom-F.Init word start location end) =
     judges (λ resolver. asrt.Init (number_in given resolver location)) (λ setting resolver. judged_number (sight given setting.in_ensures resolver) location)
     (λ setting resolver. number_grows (sight given setting.in_ensures resolver) location)
-    (λ setting in_loop resolver total scope shows none.
-        (_, sym (scoped_layer _ (Asrt-F.Init _) (rolls-Init _)),
-        number_read scope _ (reaches (stand_in setting in_loop) total scope resolver given.bytes shows) location resolver.faults none))
+    (λ setting in_loop resolver total scope shows none. (
+      _,
+      sym (scoped_layer _ (Asrt-F.Init _) (rolls-Init _)),
+      number_read scope _ (reaches (stand_in setting in_loop) total scope resolver given.bytes shows) location resolver.faults none,
+    ))
 atom_layer_binds given (Atom-F.Rel word start location comma invariant end) =
     judges (λ resolver. asrt.Rel (number_in given resolver location) (instance_of given.bytes given.invariants resolver.names invariant))
     (λ setting resolver. judged_permission (sight given setting.in_ensures resolver) given.invariants location invariant)
     (λ setting resolver. permission_grows (sight given setting.in_ensures resolver) given.invariants location invariant)
-    (λ setting in_loop resolver total scope shows none.
-        (_, sym (scoped_layer _ (Asrt-F.Rel _ _) (rolls-Rel _ _)),
-        permission_read scope _ (reaches (stand_in setting in_loop) total scope resolver given.bytes shows) given.invariants location invariant resolver.faults none))
+    (λ setting in_loop resolver total scope shows none. (
+      _,
+      sym (scoped_layer _ (Asrt-F.Rel _ _) (rolls-Rel _ _)),
+      permission_read scope _ (reaches (stand_in setting in_loop) total scope resolver given.bytes shows) given.invariants location invariant resolver.faults none,
+    ))
 atom_layer_binds given (Atom-F.RmwAcq word start location comma invariant end) =
     judges (λ resolver. asrt.RmwAcq (number_in given resolver location) (instance_of given.bytes given.invariants resolver.names invariant))
     (λ setting resolver. judged_permission (sight given setting.in_ensures resolver) given.invariants location invariant)
     (λ setting resolver. permission_grows (sight given setting.in_ensures resolver) given.invariants location invariant)
-    (λ setting in_loop resolver total scope shows none.
-        (_, sym (scoped_layer _ (Asrt-F.RmwAcq _ _) (rolls-RmwAcq _ _)),
-        permission_read scope _ (reaches (stand_in setting in_loop) total scope resolver given.bytes shows) given.invariants location invariant resolver.faults none))
+    (λ setting in_loop resolver total scope shows none. (
+      _,
+      sym (scoped_layer _ (Asrt-F.RmwAcq _ _) (rolls-RmwAcq _ _)),
+      permission_read scope _ (reaches (stand_in setting in_loop) total scope resolver given.bytes shows) given.invariants location invariant resolver.faults none,
+    ))
 atom_layer_binds given (Atom-F.Acq word start location use_comma invariant part_comma part value set_comma set_start excluded set_end end) =
     judges (λ resolver. asrt.Acq (number_in given resolver location) (instance_of given.bytes given.invariants resolver.names invariant) (part_number value)
-        (numbered_arguments given.bytes resolver.names excluded))
+    (numbered_arguments given.bytes resolver.names excluded))
     (λ setting resolver. judged_acquire (sight given setting.in_ensures resolver) given.invariants location invariant part value excluded)
     (λ setting resolver faults none.
-        let seen = sight given setting.in_ensures resolver in
-        permission_grows seen given.invariants location invariant faults (noted_grows _ _ (acquire_numbered seen given.invariants location invariant part value excluded faults none)))
+    let seen = sight given setting.in_ensures resolver in
+    permission_grows seen given.invariants location invariant faults (noted_grows _ _ (acquire_numbered seen given.invariants location invariant part value excluded faults none)))
     (λ setting in_loop resolver total scope shows none.
-        let seen = sight given setting.in_ensures resolver in
-        let reach = reaches (stand_in setting in_loop) total scope resolver given.bytes shows in
-        let both = and_parts _ _ (permission_read scope seen reach given.invariants location invariant resolver.faults
-            (noted_grows _ _ (acquire_numbered seen given.invariants location invariant part value excluded resolver.faults none))) in
-        (_, sym (scoped_layer _ (Asrt-F.Acq _ _ _ _) (rolls-Acq _ _ _ _)),
-        and_from _ _ both.0 (and_from _ _ both.1 (excluded_read scope seen reach 0 (arguments_of excluded) _ none))))
+    let seen = sight given setting.in_ensures resolver in
+    let reach = reaches (stand_in setting in_loop) total scope resolver given.bytes shows in
+    let both = and_parts _ _ (permission_read scope seen reach given.invariants location invariant resolver.faults
+    (noted_grows _ _ (acquire_numbered seen given.invariants location invariant part value excluded resolver.faults none))) in (
+      _,
+      sym (scoped_layer _ (Asrt-F.Acq _ _ _ _) (rolls-Acq _ _ _ _)),
+      and_from _ _ both.0 (and_from _ _ both.1 (excluded_read scope seen reach 0 (arguments_of excluded) _ none)),
+    ))
 atom_layer_binds given (Atom-F.Bank word start bank comma amount end) =
     judges (λ resolver. tokens given resolver word bank amount) (λ setting resolver. judged_tokens (sight given setting.in_ensures resolver) bank amount)
     (λ setting resolver faults none. noted_grows faults _ (number_grows (sight given setting.in_ensures resolver) amount _ none))
     (λ setting in_loop resolver total scope shows none.
-        let seen = sight given setting.in_ensures resolver in
-        let reach = reaches (stand_in setting in_loop) total scope resolver given.bytes shows in
-        tokens_scoped given scope resolver word bank amount
-        (and_from _ _ (bank_seen scope seen reach bank resolver.faults (number_grows seen amount _ none)) (number_read scope seen reach amount _ none)))
+    let seen = sight given setting.in_ensures resolver in
+    let reach = reaches (stand_in setting in_loop) total scope resolver given.bytes shows in
+    tokens_scoped given scope resolver word bank amount
+    (and_from _ _ (bank_seen scope seen reach bank resolver.faults (number_grows seen amount _ none)) (number_read scope seen reach amount _ none)))
 atom_layer_binds given (Atom-F.Related left how) = relation_binds given left how
 atom_layer_binds given (Atom-F.Predicate predicate) = empty_binds
 

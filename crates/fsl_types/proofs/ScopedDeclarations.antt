@@ -1,5 +1,5 @@
 -- Invariants and procedures of a tree without faults are scoped, and a procedure has the banks that its signature says.
-use Rattle.std.proofs.Common.{◌≡◌, ◌≢◌, ◌⊎◌, inl, inr, ⊎_elim, ℕ, zero, suc, ◌+◌, ◌<◌, ◌≤◌, Bool, true, false, true≢false, ◌&&◌, ◌||◌, ◌==◌, if◌then◌else◌, List, [], ◌∷◌, ◌++◌, Option, Some, None, is_some, map, length, replicate, get_or, nat_lt, nat_le, refl, ap, sym, ◌∙◌, subst, arith, append_assoc, append-nil, length-append, eq-eqb, lt-ltb, le-leb, leb-true, eq-or-lt_of_le}
+use Rattle.std.proofs.Common.{◌≡◌, ◌≢◌, ◌⊎◌, inl, inr, ⊎_elim, ℕ, zero, suc, ◌+◌, ◌<◌, ◌≤◌, Bool, true, false, true≢false, ◌||◌, ◌==◌, if◌then◌else◌, List, [], ◌∷◌, ◌++◌, Option, Some, None, is_some, map, length, nat_lt, nat_le, refl, ap, sym, ◌∙◌, subst, arith, append_assoc, append-nil, length-append, eq-eqb, lt-ltb, le-leb, leb-true, eq-or-lt_of_le}
 use Rattle.std.proofs.lemmas.Bool.{and_from, and_parts, eqb-true, false_from_ne_true, ltb-true, or_left, or_parts, or_right}
 use Rattle.std.proofs.lemmas.List.{length-map, length-replicate, length-set}
 use Rattle.std.proofs.lemmas.List.Folds.{list_all-append, list_any-append}
@@ -7,12 +7,11 @@ use Rattle.std.proofs.Math.ListN.{get_or-map}
 use Rattle.std.specs.List.{list_all, list_any}
 use Rattle.fsl_base.specs.declared.span.Span.{Span}
 use Rattle.fsl_core.specs.declared.assertion.Asrt.{Asrt}
-use Rattle.fsl_core.specs.declared.declaration.Inv.{Inv}
 use Rattle.fsl_core.specs.declared.declaration.Proc.{Proc}
 use Rattle.fsl_core.specs.declared.scope.Scope.{Scope}
 use Rattle.fsl_core.specs.declared.scope.Sight.{Sight as Visibility}
 use Rattle.fsl_core.specs.declared.scope.Sight.TheVariants as visible
-use Rattle.fsl_core.specs.Scopes.{asrt_scoped, behind_requires, given_to, has_room, in_body, in_ensures as ensuring, inv_is_scoped, kept, no_variables, nothing_declared, parameters_of as parameters_scope, proc_is_scoped, sight_at, with_banks, with_first, with_sight}
+use Rattle.fsl_core.specs.Scopes.{asrt_scoped, behind_requires, given_to, in_body, in_ensures as ensuring, inv_is_scoped, kept, no_variables, nothing_declared, parameters_of as parameters_scope, proc_is_scoped, sight_at, with_banks, with_first, with_sight}
 use Rattle.fsl_tree.specs.declared.declaration.Invariant.{Invariant}
 use Rattle.fsl_tree.specs.declared.declaration.Parameter.{Parameter}
 use Rattle.fsl_tree.specs.declared.declaration.Part.{Part}
@@ -23,21 +22,20 @@ use Rattle.fsl_types.specs.declared.resolver.Resolver.{Resolver}
 use Rattle.fsl_types.specs.declared.variable.Sort.{Sort}
 use Rattle.fsl_types.specs.declared.variable.Sort.TheVariants as sorts
 use Rattle.fsl_types.specs.declared.variable.Variable.{Variable}
-use Rattle.fsl_types.specs.Assertions.{apart, assertion, clause}
+use Rattle.fsl_types.specs.Assertions.{clause}
 use Rattle.fsl_types.specs.Given.{Given}
 use Rattle.fsl_types.specs.Names.{found, text_at}
 use Rattle.fsl_types.specs.Programs.{banks_among, contract, in_ensures, in_invariant, in_requires, invariant, is_bank, parameter_sort, parameters_of, part, parts, procedure, with_parameter, with_parameters}
 use Rattle.fsl_types.specs.Resolvers.{declared, fresh, judging, noted, one_more, with_bank}
-use Rattle.fsl_types.specs.Statements.{block}
 use Rattle.fsl_types.proofs.DeclarationsLemmas.{known, parameters_grow}
 use Rattle.fsl_types.proofs.ExpressionsLemmas.{noted_grows}
 use Rattle.fsl_types.proofs.ResolverLemmas.{one_more_top}
 use Rattle.fsl_types.proofs.ScopedActs.{Added, HasBanks, added_both, added_longer, added_none, bank_added, number_added, in_code, still_high}
-use Rattle.fsl_types.proofs.ScopedAssertions.{apart_binds, apart_stands, assertion_binds, clause_binds, stand_in}
-use Rattle.fsl_types.proofs.ScopedNames.{Behind, IsShown, Shows, Stand, behind_both, declared_shows, seen_other, seen_there, shows_on, suits, taken_back, takes_one}
+use Rattle.fsl_types.proofs.ScopedAssertions.{apart_stands, assertion_binds, clause_binds, stand_in}
+use Rattle.fsl_types.proofs.ScopedNames.{Shows, behind_both, declared_shows, seen_other, seen_there, shows_on, suits, taken_back, takes_one}
 use Rattle.fsl_types.proofs.ScopedStatements.{block_scopes}
 use Rattle.fsl_types.proofs.StatementsLemmas.{Agree}
-use Rattle.fsl_types.proofs.TableLemmas.{found_either, found_on}
+use Rattle.fsl_types.proofs.TableLemmas.{found_either}
 
 -- ---- the first variables, and those that are banks
 
@@ -246,8 +244,8 @@ parameter_known bytes p resolver banks none ends known =
           ⊎_elim
           (λ before. let old = known.each name v before in let low = old.0 in (omega (arith, low, next), old.1, old.2))
           (λ new.
-              subst (λ (w : Variable). (w.slot < (with_parameter bytes p resolver).slots) × (list_any (λ (bank : ℕ). bank == w.slot) banks ≡ is_bank_sort w.sort) × (w.sort ≡ sorts.Local → ⊥)) new.1
-              (omega (arith, next), slot_marked bytes p.name sort resolver banks next known.low ends, parameter_no_local p.bank))
+          subst (λ (w : Variable). (w.slot < (with_parameter bytes p resolver).slots) × (list_any (λ (bank : ℕ). bank == w.slot) banks ≡ is_bank_sort w.sort) × (w.sort ≡ sorts.Local → ⊥)) new.1
+          (omega (arith, next), slot_marked bytes p.name sort resolver banks next known.low ends, parameter_no_local p.bank))
           (found_either name (text_at bytes p.name) (record { slot = resolver.slots; sort = sort }) v resolver.names is);
     }
 
@@ -275,9 +273,13 @@ parameters_known bytes (p ∷ ps) resolver banks none ends known =
     let none_after = parameters_grow bytes ps after none in
     let next : after.slots ≡ resolver.slots + 1 = (takes_one 16 bytes p.name (parameter_sort p.bank) resolver none_after (omega arith)).1 in
     let ends_after = ends_before after (with_parameters bytes ps after) banks (parameters_added bytes ps after none) ends in
-    let rest = parameters_known bytes ps after banks none ends (parameter_known bytes p resolver banks none_after ends_after known) in
-    (rest.0, (slot_marked bytes p.name (parameter_sort p.bank) resolver banks next known.low ends_after ∙ parameter_is p.bank,
-    subst (λ (n : ℕ). Agree banks n (map is_bank ps)) next rest.1))
+    let rest = parameters_known bytes ps after banks none ends (parameter_known bytes p resolver banks none_after ends_after known) in (
+      rest.0,
+      (
+        slot_marked bytes p.name (parameter_sort p.bank) resolver banks next known.low ends_after ∙ parameter_is p.bank,
+        subst (λ (n : ℕ). Agree banks n (map is_bank ps)) next rest.1,
+      ),
+    )
 
 no_parameters : (faults : List Fault) (banks : List ℕ) → Parametric (fresh faults) banks
 no_parameters faults banks = record { low = refl; few = omega arith; each = λ name v is. absurd cc }
@@ -428,20 +430,20 @@ procedure_scoped procs given has q faults none =
     let few : length start.banks ≤ start.slots = parametric.few in
     let fewer : length made.added.more + agreed.slots ≤ end.slots = made.added.few in
     let room = and_from _ _ (le-leb end.slots 256 within) (and_from _ _ (le-leb start.slots end.slots (omega (arith, early, middle, late)))
-        (le-leb (length end.banks) end.slots (omega (arith, first, second, third, few, fewer, early, middle)))) in
+    (le-leb (length end.banks) end.slots (omega (arith, first, second, third, few, fewer, early, middle)))) in
     let opens = parameters_scope proc in
     let shows = procedure_shows false start end.banks end.slots parametric small within in
     let pre_stands = (clause_binds given q.requires_clause).stands in_requires false start end.slots opens shows (omega (arith, middle, late)) made.none_pre in
     let behind = behind_requires proc in
     let shows_pre : Shows (stand_in in_requires false) end.slots behind pre = pre_stands.shows in
     let shows_ensures : Shows (stand_in in_ensures false) end.slots (ensuring behind) pre =
-        record {
-          wide = shows_pre.wide;
-          free = shows_pre.free;
-          each = λ name v is. let it = shows_pre.each name v is in record { low = it.low; fits = it.fits };
-          in_ensures = refl;
-          in_loop = shows_pre.in_loop;
-        } in
+    record {
+      wide = shows_pre.wide;
+      free = shows_pre.free;
+      each = λ name v is. let it = shows_pre.each name v is in record { low = it.low; fits = it.fits };
+      in_ensures = refl;
+      in_loop = shows_pre.in_loop;
+    } in
     let post_stands = (clause_binds given q.ensures_clause).stands in_ensures false pre end.slots (ensuring behind) shows_ensures late made.none_agreed in
     let shows_body : Shows (in_code false) end.slots (in_body behind) agreed = record {
       wide = length-map behind.sights kept ∙ shows_pre.wide;
@@ -450,7 +452,7 @@ procedure_scoped procs given has q faults none =
           let it = parametric.each name v (ap (found name) (sym made.names) ∙ is) in
           let lower : v.slot < start.slots = it.0 in
           let seen = kept_sight behind v.slot
-              ∙ ap kept (pre_stands.old v.slot lower ∙ sort_seen v.sort start.slots end.slots v.slot end.banks small lower it.1 it.2) ∙ kept_given v.sort in
+          ∙ ap kept (pre_stands.old v.slot lower ∙ sort_seen v.sort start.slots end.slots v.slot end.banks small lower it.1 it.2) ∙ kept_given v.sort in
           record { low = omega (arith, lower, early, middle); fits = ap (λ (s : Visibility). suits true s v.sort) seen ∙ suits_given true v.sort };
       in_ensures = shows_pre.in_ensures;
       in_loop = shows_pre.in_loop;
@@ -491,8 +493,8 @@ parts_scoped given before (p ∷ ps) resolver total scope shows room none =
     let between = (part given before p resolver).resolver in
     let late = parts_longer given (one_more 8 before) ps between none in
     let one = apart_stands _ (assertion_binds given p.assertion) in_invariant false noted_part total scope
-        (shows_on (stand_in in_invariant false) total scope resolver noted_part shows (omega arith) refl) (omega (arith, room, late))
-        (parts_grow given (one_more 8 before) ps between none) in
+    (shows_on (stand_in in_invariant false) total scope resolver noted_part shows (omega arith) refl) (omega (arith, room, late))
+    (parts_grow given (one_more 8 before) ps between none) in
     and_from _ _ one.0 (parts_scoped given (one_more 8 before) ps between total scope one.1 room none)
 
 invariant_shows : (resolver : Resolver) (banks : List ℕ) (total : ℕ) → Parametric resolver banks → resolver.slots ≤ 256 → total ≤ 256
@@ -521,6 +523,6 @@ invariant_scoped given i faults none =
     let ends : Ends start start.banks = record { more = []; are = sym (append-nil start.banks); high = refl } in
     let parametric = (parameters_known given.bytes (parameters_of i.parameters) (fresh faults) start.banks none_start ends (no_parameters faults start.banks)).0 in
     let shows = declared_shows (stand_in in_invariant false) end.slots (opening visible.Either start.slots end.slots) 256 given.bytes i.value sorts.Local visible.Given start
-        (invariant_shows start start.banks end.slots parametric small within) none_valued (omega arith) refl in
+    (invariant_shows start start.banks end.slots parametric small within) none_valued (omega arith) refl in
     and_from _ _ (le-leb end.slots 256 within) (and_from _ _ (lt-ltb start.slots end.slots (omega (arith, next, late)))
     (parts_scoped given 0 (i.first ∷ i.more) valued end.slots (given_to (invariant given i faults).made) shows (omega arith) none))

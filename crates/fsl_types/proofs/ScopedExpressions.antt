@@ -1,10 +1,9 @@
 -- An expression without faults reads only what is visible, and arguments are what their parameters are.
-use Rattle.std.proofs.Common.{◌≡◌, ℕ, ◌+◌, Bool, true, false, true≢false, ◌&&◌, ◌||◌, not, List, [], ◌∷◌, ◌++◌, Option, Some, None, map, drop, length, refl, ap, sym, ◌∙◌, subst, subst₂, ◌==◌, arith}
+use Rattle.std.proofs.Common.{◌≡◌, ℕ, ◌+◌, Bool, true, false, true≢false, ◌&&◌, List, [], ◌∷◌, Option, Some, None, map, length, refl, ap, sym, ◌∙◌, subst, subst₂, arith}
 use Rattle.std.proofs.lemmas.Bool.{and_from, and_parts, not-false, or_left, or_right}
 use Rattle.std.proofs.lemmas.List.Folds.{list_all-map}
-use Rattle.std.specs.List.{list_all, list_any}
+use Rattle.std.specs.List.{list_all}
 use Rattle.fsl_base.specs.declared.span.Span.{Span}
-use Rattle.fsl_core.specs.declared.expr.Cond.{Cond}
 use Rattle.fsl_core.specs.declared.expr.Expr.{Expr, map-Expr}
 use Rattle.fsl_core.specs.declared.expr.Expr.TheFolds.{fold-Part, fold-roll-Expr, fold_out-Part}
 use Rattle.fsl_core.specs.declared.expr.Expr.TheOpen.{Expr-F}
@@ -21,19 +20,18 @@ use Rattle.fsl_tree.specs.declared.expression.Expression.{Expression, map-Expres
 use Rattle.fsl_tree.specs.declared.expression.Factor.{Factor, map-Factor}
 use Rattle.fsl_tree.specs.declared.expression.Factor.TheFolds.{ind-Expression, fold-roll-Factor, fold-roll-Addend, fold-roll-Expression, fold-roll-Multiplier, fold-roll-Term, fold_out-Factor, fold_out-Term, fold_out-Expression}
 use Rattle.fsl_tree.specs.declared.expression.Factor.TheOpen.{Factor-F, Addend-F, Expression-F, Multiplier-F, Term-F}
-use Rattle.fsl_tree.specs.declared.expression.Factor.TheViews.{out-Expression, out-Factor, out-Term, roll-Factor, roll-Addend, roll-Expression, roll-Multiplier, roll-Term}
+use Rattle.fsl_tree.specs.declared.expression.Factor.TheViews.{out-Expression, out-Term, roll-Factor, roll-Addend, roll-Expression, roll-Multiplier, roll-Term}
 use Rattle.fsl_tree.specs.declared.expression.Multiplier.{Multiplier, map-Multiplier}
 use Rattle.fsl_tree.specs.declared.expression.Term.{Term, map-Term}
 use Rattle.fsl_types.specs.declared.fault.Fault.{Fault}
-use Rattle.fsl_types.specs.declared.occurrence.Due.{Due}
 use Rattle.fsl_types.specs.declared.occurrence.Due.TheVariants as due
 use Rattle.fsl_types.specs.declared.occurrence.Occurrence.TheVariants as occurrence
 use Rattle.fsl_types.specs.declared.resolver.Resolver.{Resolver}
 use Rattle.fsl_types.specs.declared.variable.Variable.{Variable}
 use Rattle.fsl_types.specs.Expressions.{Judged, Numbered, Sight, addend_judged, addend_of, addend_step, condition_of, expression_judged, expression_of, expression_step, factor_judged, factor_of, factor_step, first_due, first_factor, in_turn, judged_addend, judged_argument, judged_arguments, judged_bank, judged_condition, judged_excluded, judged_expression, judged_factor, judged_multiplier, judged_name, judged_number, judged_term, multiplier_judged, multiplier_of, multiplier_step, name_alone, negated, only_name, product_of, sum_of, term_judged, term_of, term_step}
 use Rattle.fsl_types.specs.Faults.{is_due}
-use Rattle.fsl_types.specs.Names.{Names, found, slot_at, slot_of, text_at}
-use Rattle.fsl_types.specs.Resolvers.{noted, one_more}
+use Rattle.fsl_types.specs.Names.{found, slot_at, text_at}
+use Rattle.fsl_types.specs.Resolvers.{one_more}
 use Rattle.fsl_types.proofs.ExpressionsLemmas.{Grows, arguments_grow, excluded_grows, noted_grows, noted_keeps, number_grows}
 use Rattle.fsl_types.proofs.StatementsLemmas.{Agree}
 use Rattle.fsl_types.proofs.ScopedNames.{Shows, Stand, as_bank, as_number, named}

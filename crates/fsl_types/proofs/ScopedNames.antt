@@ -1,6 +1,6 @@
 -- Names and scopes: a scope shows names, if each of them is seen as its sort says and the slots that aren't taken are
 -- free. What is declared in both is shown again.
-use Rattle.std.proofs.Common.{◌≡◌, ◌≢◌, ℕ, ◌+◌, ◌<◌, ◌≤◌, Bool, true, false, true≢false, not, ◌&&◌, ◌||◌, List, [], ◌∷◌, ◌++◌, length, take, Option, Some, None, is_some, nat_le, refl, ap, sym, ◌∙◌, subst, ⊎_elim, if◌then◌else◌, arith, append_assoc, append-nil, leb-false}
+use Rattle.std.proofs.Common.{◌≡◌, ◌≢◌, ℕ, ◌+◌, ◌<◌, ◌≤◌, Bool, true, false, true≢false, not, ◌&&◌, ◌||◌, List, [], ◌∷◌, ◌++◌, length, take, Option, Some, None, is_some, refl, ap, sym, ◌∙◌, subst, ⊎_elim, if◌then◌else◌, arith, append_assoc, append-nil, leb-false}
 use Rattle.std.proofs.lemmas.Bool.{and_from, and_parts, not-false}
 use Rattle.std.proofs.lemmas.List.{get_or-set_other, get_or-set_same, length-set}
 use Rattle.std.proofs.Math.Seq.{take-append_seam}
@@ -8,7 +8,7 @@ use Rattle.fsl_base.specs.declared.span.Span.{Span}
 use Rattle.fsl_core.specs.declared.scope.Scope.{Scope}
 use Rattle.fsl_core.specs.declared.scope.Sight.{Sight as Visibility}
 use Rattle.fsl_core.specs.declared.scope.Sight.TheVariants as visible
-use Rattle.fsl_core.specs.Scopes.{is_bank, is_free, is_number, is_settable, sight_at, with_sight}
+use Rattle.fsl_core.specs.Scopes.{is_bank, is_number, is_settable, sight_at, with_sight}
 use Rattle.fsl_types.specs.declared.occurrence.Due.{Due}
 use Rattle.fsl_types.specs.declared.occurrence.Due.TheVariants as due
 use Rattle.fsl_types.specs.declared.occurrence.Occurrence.TheVariants as occurrence
@@ -17,9 +17,9 @@ use Rattle.fsl_types.specs.declared.variable.Sort.{Sort}
 use Rattle.fsl_types.specs.declared.variable.Sort.TheVariants as sorts
 use Rattle.fsl_types.specs.declared.variable.Variable.{Variable}
 use Rattle.fsl_types.specs.Faults.{is_due}
-use Rattle.fsl_types.specs.Names.{Names, found, slot_of, sort_of, text_at, with_name}
-use Rattle.fsl_types.specs.Resolvers.{declared, one_more}
-use Rattle.fsl_types.proofs.ExpressionsLemmas.{Keeps, noted_grows, noted_keeps}
+use Rattle.fsl_types.specs.Names.{Names, found, slot_of, sort_of, text_at}
+use Rattle.fsl_types.specs.Resolvers.{declared}
+use Rattle.fsl_types.proofs.ExpressionsLemmas.{Keeps, noted_keeps}
 use Rattle.fsl_types.proofs.ResolverLemmas.{next_number}
 use Rattle.fsl_types.proofs.TableLemmas.{found_either}
 

@@ -1,6 +1,6 @@
 -- What is made of a statement without faults stands in each scope that shows the names before it, and the scope behind
 -- it shows those behind it.
-use Rattle.std.proofs.Common.{◌≡◌, ℕ, ◌+◌, ◌≤◌, Bool, true, false, ◌&&◌, not, List, [], ◌∷◌, ◌++◌, Option, Some, None, map, refl, ap, sym, ◌∙◌, subst, arith, append-nil}
+use Rattle.std.proofs.Common.{◌≡◌, ℕ, ◌≤◌, Bool, true, false, not, List, [], ◌∷◌, Option, Some, None, map, refl, ap, sym, ◌∙◌, subst, arith, append-nil}
 use Rattle.std.proofs.lemmas.Bool.{and_from}
 use Rattle.fsl_base.specs.declared.span.Span.{Span}
 use Rattle.fsl_core.specs.declared.act.Act.{Act}
@@ -21,7 +21,6 @@ use Rattle.fsl_tree.specs.declared.declaration.Clause.{Clause}
 use Rattle.fsl_tree.specs.declared.expression.Condition.{Condition}
 use Rattle.fsl_tree.specs.declared.expression.Expression.{Expression}
 use Rattle.fsl_tree.specs.declared.right_side.RightSide.{RightSide}
-use Rattle.fsl_tree.specs.declared.right_side.Step.{Step}
 use Rattle.fsl_tree.specs.declared.statement.Block.{Block, map-Block}
 use Rattle.fsl_tree.specs.declared.statement.FenceKind.{FenceKind}
 use Rattle.fsl_tree.specs.declared.statement.FenceKind.TheVariants as fences
@@ -36,9 +35,8 @@ use Rattle.fsl_types.specs.declared.occurrence.Due.TheVariants as due
 use Rattle.fsl_types.specs.declared.occurrence.Occurrence.TheVariants as occurrence
 use Rattle.fsl_types.specs.declared.resolver.Resolver.{Resolver}
 use Rattle.fsl_types.specs.declared.variable.Sort.TheVariants as sorts
-use Rattle.fsl_types.specs.declared.variable.Variable.{Variable}
 use Rattle.fsl_types.specs.Assertions.{apart, assertion, clause}
-use Rattle.fsl_types.specs.Expressions.{Judged, Sight, condition_of, expression_of, fits, judged_condition, judged_name, judged_number, judged_use, signature_at}
+use Rattle.fsl_types.specs.Expressions.{Judged, Sight, condition_of, expression_of, judged_condition, judged_name, judged_number, judged_use, signature_at}
 use Rattle.fsl_types.specs.Given.{Given}
 use Rattle.fsl_types.specs.Names.{Names, found, slot_at, sort_of, text_at}
 use Rattle.fsl_types.specs.Resolvers.{declared, judging}
@@ -153,8 +151,8 @@ assign_scopes procs given name semicolon right = record {
       let slot = slot_at given.bytes resolver.names name in
       let it = right_sets procs given has scope resolver.names (code_reaches given in_loop total scope resolver shows) slot right _ none in
       let is : sight_at scope slot ≡ visible.Local =
-          target_local in_loop total scope resolver shows (text_at given.bytes name) name (found (text_at given.bytes name) resolver.names) refl
-          (noted_keeps (occurrence.Variable name due.Target (sort_of (found (text_at given.bytes name) resolver.names))) resolver.faults (right_grows given (seen given resolver) right _ none)) in
+      target_local in_loop total scope resolver shows (text_at given.bytes name) name (found (text_at given.bytes name) resolver.names) refl
+      (noted_keeps (occurrence.Variable name due.Target (sort_of (found (text_at given.bytes name) resolver.names))) resolver.faults (right_grows given (seen given resolver) right _ none)) in
       stands_as (in_code in_loop) total scope _ (sets slot it.test) _ (of_act procs name semicolon _ _ it.is)
       (and_from _ _ (ap is_settable is) it.fit)
       (subst (λ (s : Scope). Shows (in_code in_loop) total s judged) (sym (set_again scope slot is)) (shows_on (in_code in_loop) total scope resolver judged shows (omega arith) refl));
@@ -322,21 +320,27 @@ statement_layer_scopes procs given (Statement-F.Store word how start location co
     judges procs given _ word semicolon (λ in_loop resolver faults. judged_number (seen given resolver) stored (judged_number (seen given resolver) location (judged_mode accesses.Store how faults)))
     (λ in_loop resolver faults none. noted_grows faults _ (number_grows (seen given resolver) location _ (number_grows (seen given resolver) stored _ none)))
     (λ has in_loop resolver total scope shows none.
-        let reach = code_reaches given in_loop total scope resolver shows in
-        (_, act_layer procs _ (Act-F.Store _ _ _) (rolls-Store _ _ _),
-        and_from _ _ (number_read scope _ reach location _ (number_grows (seen given resolver) stored _ none)) (number_read scope _ reach stored _ none)))
+    let reach = code_reaches given in_loop total scope resolver shows in (
+      _,
+      act_layer procs _ (Act-F.Store _ _ _) (rolls-Store _ _ _),
+      and_from _ _ (number_read scope _ reach location _ (number_grows (seen given resolver) stored _ none)) (number_read scope _ reach stored _ none),
+    ))
 statement_layer_scopes procs given (Statement-F.Call word callee semicolon) =
     judges procs given _ word semicolon (λ in_loop resolver. judged_use (seen given resolver) (signature_at given.bytes given.procedures callee.name) callee)
     (λ in_loop resolver. use_grows (seen given resolver) (signature_at given.bytes given.procedures callee.name) callee)
-    (λ has in_loop resolver total scope shows none.
-        (_, act_layer procs _ (Act-F.Call None _ _) (rolls-Call _ _ _),
-        call_passes procs given has scope resolver.names (code_reaches given in_loop total scope resolver shows) callee resolver.faults none))
+    (λ has in_loop resolver total scope shows none. (
+      _,
+      act_layer procs _ (Act-F.Call None _ _) (rolls-Call _ _ _),
+      call_passes procs given has scope resolver.names (code_reaches given in_loop total scope resolver shows) callee resolver.faults none,
+    ))
 statement_layer_scopes procs given (Statement-F.Parallel word start calls end) =
     judges procs given _ word end (λ in_loop resolver. judged_parallel given (seen given resolver) word calls)
     (λ in_loop resolver faults none. noted_grows faults _ (each_grows (judged_call given (seen given resolver)) (call_grows given (seen given resolver)) calls _ none))
-    (λ has in_loop resolver total scope shows none.
-        (_, act_layer procs _ (Act-F.Par _) (rolls-Par _),
-        children_pass procs given has scope resolver.names (code_reaches given in_loop total scope resolver shows) calls _ none))
+    (λ has in_loop resolver total scope shows none. (
+      _,
+      act_layer procs _ (Act-F.Par _) (rolls-Par _),
+      children_pass procs given has scope resolver.names (code_reaches given in_loop total scope resolver shows) calls _ none,
+    ))
 statement_layer_scopes procs given (Statement-F.Fence word what semicolon) = fence_scopes procs given word semicolon what
 statement_layer_scopes procs given (Statement-F.If word start condition end then_block None) = if_alone procs given word (block given then_block.0).last condition _ then_block.1
 statement_layer_scopes procs given (Statement-F.If word start condition end then_block (Some other)) = if_both procs given word (otherwise given other.0).last condition _ _ then_block.1 other.1
@@ -345,30 +349,32 @@ statement_layer_scopes procs given (Statement-F.Assert word start condition end 
     judges procs given _ word semicolon (λ in_loop resolver. judged_condition (seen given resolver) condition)
     (λ in_loop resolver. condition_grows (seen given resolver) condition)
     (λ has in_loop resolver total scope shows none.
-        (_, act_layer procs _ (Act-F.Assert _) (rolls-Assert _), condition_tested scope _ (code_reaches given in_loop total scope resolver shows) condition resolver.faults none))
+    (_, act_layer procs _ (Act-F.Assert _) (rolls-Assert _), condition_tested scope _ (code_reaches given in_loop total scope resolver shows) condition resolver.faults none))
 statement_layer_scopes procs given (Statement-F.Print word start printed end semicolon) =
     judges procs given _ word semicolon (λ in_loop resolver. judged_number (seen given resolver) printed)
     (λ in_loop resolver. number_grows (seen given resolver) printed)
     (λ has in_loop resolver total scope shows none.
-        (_, act_layer procs _ (Act-F.Print _) (rolls-Print _), number_read scope _ (code_reaches given in_loop total scope resolver shows) printed resolver.faults none))
+    (_, act_layer procs _ (Act-F.Print _) (rolls-Print _), number_read scope _ (code_reaches given in_loop total scope resolver shows) printed resolver.faults none))
 statement_layer_scopes procs given (Statement-F.Free word start location end semicolon) =
     judges procs given _ word semicolon (λ in_loop resolver. judged_number (seen given resolver) location)
     (λ in_loop resolver. number_grows (seen given resolver) location)
     (λ has in_loop resolver total scope shows none.
-        (_, act_layer procs _ (Act-F.Free _) (rolls-Free _), number_read scope _ (code_reaches given in_loop total scope resolver shows) location resolver.faults none))
+    (_, act_layer procs _ (Act-F.Free _) (rolls-Free _), number_read scope _ (code_reaches given in_loop total scope resolver shows) location resolver.faults none))
 statement_layer_scopes procs given (Statement-F.Return word e semicolon) =
     judges procs given _ word semicolon (λ in_loop resolver. judged_return (seen given resolver) in_loop word e)
     (λ in_loop resolver. return_grows (seen given resolver) in_loop word e)
-    (λ has in_loop resolver total scope shows none.
-        (_, act_layer procs _ (Act-F.Return _) (rolls-Return _),
-        and_from _ _ (ap not (shows.in_loop ∙ return_noted (seen given resolver) in_loop word e resolver.faults none))
-        (result_read scope _ (code_reaches given in_loop total scope resolver shows) in_loop given resolver.names word e resolver.faults refl none)))
+    (λ has in_loop resolver total scope shows none. (
+      _,
+      act_layer procs _ (Act-F.Return _) (rolls-Return _),
+      and_from _ _ (ap not (shows.in_loop ∙ return_noted (seen given resolver) in_loop word e resolver.faults none))
+          (result_read scope _ (code_reaches given in_loop total scope resolver shows) in_loop given resolver.names word e resolver.faults refl none),
+    ))
 statement_layer_scopes procs given (Statement-F.Bank word name semicolon) = bank_scopes procs given word name semicolon
 statement_layer_scopes procs given (Statement-F.Step timed semicolon) =
     judges procs given _ (step_place timed.word) semicolon (λ in_loop resolver. judged_step (seen given resolver) timed)
     (λ in_loop resolver. step_grows (seen given resolver) timed)
     (λ has in_loop resolver total scope shows none.
-        (_, act_layer procs _ (Act-F.Step _) (rolls-Step _), step_read scope _ (code_reaches given in_loop total scope resolver shows) timed resolver.faults none))
+    (_, act_layer procs _ (Act-F.Step _) (rolls-Step _), step_read scope _ (code_reaches given in_loop total scope resolver shows) timed resolver.faults none))
 
 statement_rolled : (procs : List Proc) (given : Given) (x : Statement-F Statement Block Otherwise) (y : StatementParts procs given) → bare_statement procs given y ≡ x
     → Scoping procs given (statement given (roll-Statement x))

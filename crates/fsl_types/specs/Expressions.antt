@@ -1,6 +1,6 @@
 -- Expressions, conditions, arguments and uses: what they are over numbered variables, and their faults. They declare
 -- nothing.
-use Rattle.std.specs.Prelude.{ℕ, ◌+◌, Bool, true, false, not, List, [], ◌∷◌, ◌++◌, length, map, drop, Option, Some, None, pos, neg_ℤ, ◌==◌, min, if◌then◌else◌}
+use Rattle.std.specs.Prelude.{ℕ, Bool, true, false, List, [], ◌∷◌, length, map, drop, Option, Some, None, pos, neg_ℤ, ◌==◌}
 use Rattle.fsl_base.specs.declared.span.Span.{Span}
 use Rattle.fsl_core.specs.declared.assertion.Inst.{Inst}
 use Rattle.fsl_core.specs.declared.expr.Cond.{Cond}

@@ -33,7 +33,7 @@ use Rattle.fsl_types.specs.declared.resolver.Resolver.{Resolver}
 use Rattle.fsl_types.specs.Assertions.{apart, assertion, clause, has_modality}
 use Rattle.fsl_types.specs.Faults.{fault_at, least_fault}
 use Rattle.fsl_types.specs.Given.{Given}
-use Rattle.fsl_types.specs.Names.{Signatures, found, text_at, with_name}
+use Rattle.fsl_types.specs.Names.{found, text_at, with_name}
 use Rattle.fsl_types.specs.Statements.{block}
 use Rattle.fsl_types.specs.Resolvers.{Made, declared, fresh, judging, leaving, noted, one_more}
 

@@ -1,6 +1,6 @@
 -- What is known while a tree is read: the names that are visible, the slots that are taken, the banks among them, and
 -- the faults so far.
-use Rattle.std.specs.Prelude.{ℕ, ◌+◌, Bool, List, [], ◌∷◌, ◌++◌, Option, Some, None, nat_lt, take, if◌then◌else◌}
+use Rattle.std.specs.Prelude.{ℕ, ◌+◌, List, [], ◌∷◌, ◌++◌, nat_lt, take, if◌then◌else◌}
 use Rattle.std.specs.Option.{is_some}
 use Rattle.fsl_base.specs.declared.span.Span.{Span}
 use Rattle.fsl_types.specs.declared.fault.Fault.{Fault}
@@ -8,10 +8,9 @@ use Rattle.fsl_types.specs.declared.occurrence.Occurrence.{Occurrence}
 use Rattle.fsl_types.specs.declared.occurrence.Occurrence.TheVariants as occurrence
 use Rattle.fsl_types.specs.declared.variable.Sort.{Sort}
 use Rattle.fsl_types.specs.declared.variable.Sort.TheVariants as sorts
-use Rattle.fsl_types.specs.declared.variable.Variable.{Variable}
 use Rattle.fsl_types.specs.declared.resolver.Resolver.{Resolver}
 use Rattle.fsl_types.specs.Faults.{faults_at}
-use Rattle.fsl_types.specs.Names.{Names, found, text_at, with_name}
+use Rattle.fsl_types.specs.Names.{found, text_at, with_name}
 
 -- one more, up to a limit: where it is reached, what comes behind it is at fault
 abbrev pub one_more : ℕ → ℕ → ℕ

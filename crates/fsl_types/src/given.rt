@@ -45,7 +45,7 @@ impl<'a> Globals<'a> {
 }
 
 /// What may stand in an assertion.
-#[derive(Clone, Copy, Debug, PartialEq, Eq)]
+#[derive(Clone, Copy)]
 pub struct Setting {
     /// `result`
     pub in_ensures: bool,

@@ -17,7 +17,7 @@ pub enum Due {
 }
 
 /// An access of a location, by the modes that it may have.
-#[derive(Clone, Copy, Debug, PartialEq, Eq)]
+#[derive(Clone, Copy)]
 pub enum Access {
     Load,
     Store,
@@ -28,7 +28,7 @@ pub enum Access {
 }
 
 /// Something in a tree that a rule speaks of. Its place is that of its name, its word or its first token.
-#[derive(Clone, Copy, Debug, PartialEq, Eq)]
+#[derive(Clone, Copy)]
 pub enum Occurrence {
     /// A variable is named; `sort` is what it is, where it is visible.
     Variable {

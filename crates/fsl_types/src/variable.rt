@@ -14,7 +14,7 @@ pub enum Sort {
 }
 
 /// A variable.
-#[derive(Clone, Copy, Debug, PartialEq, Eq)]
+#[derive(Clone, Copy)]
 pub struct Variable {
     /// Its number among those of the procedure or the invariant, below 256.
     pub slot: u32,

@@ -9,19 +9,19 @@ use std::test::Fail;
 
 /// Where the lines in the middle of a body stand.
 #[derive(Clone, Copy)]
-enum Block {
+enum Middle {
     If,
     Else,
     While,
 }
 
-use Block::{Else, If, While};
+use Middle::{Else, If, While};
 
 /// What a body shows, its lines in front of a block, inside it and behind it, and whether it gives a program.
 type Body = (
     &'static str,
     &'static [Line],
-    Block,
+    Middle,
     &'static [Line],
     &'static [Line],
     bool,
@@ -237,7 +237,7 @@ const BODIES: [Body; 38] = [
     ("far too many", &[], While, &[Set(256)], &[], false),
 ];
 
-fn block(alloc: Global, how: Block, inside: List<Stmt>) -> Act {
+fn block(alloc: Global, how: Middle, inside: List<Stmt>) -> Act {
     match how {
         If => Act::If {
             cond: Cond::Yes,
@@ -260,7 +260,7 @@ fn block(alloc: Global, how: Block, inside: List<Stmt>) -> Act {
 fn statements(
     alloc: Global,
     front: &[Line],
-    how: Block,
+    how: Middle,
     inside: &[Line],
     behind: &[Line],
 ) -> Result<List<Stmt>, AllocError> {

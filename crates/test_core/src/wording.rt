@@ -55,7 +55,7 @@ fn fact(e: Expr) -> Asrt {
     }
 }
 
-fn atom(alloc: Global, word: Atom) -> Result<Asrt, AllocError> {
+fn said(alloc: Global, word: Atom) -> Result<Asrt, AllocError> {
     match word {
         Atom::Binds(slot) => Ok(cell(slot)),
         Atom::Is(slot) => Ok(fact(variable(slot))),
@@ -84,7 +84,7 @@ pub fn assertion(alloc: Global, words: &[Atom]) -> Result<Asrt, AllocError> {
     }
     let mut parts = List::new(alloc);
     for word in words {
-        parts.push(atom(alloc, *word)?)?;
+        parts.push(said(alloc, *word)?)?;
     }
     Ok(Asrt::Both { parts })
 }
