@@ -12,13 +12,7 @@ pub fn update_of(op: &RmwOp, read: &i64) -> Option<i64>
     match op {
         RmwOp::Add { n } => read.checked_add(*n),
         RmwOp::Swap { n } => Some(*n),
-        RmwOp::Cas { old, new } => {
-            if read == old {
-                Some(*new)
-            } else {
-                None
-            }
-        }
+        RmwOp::Cas { old, new } => { if read == old { Some(*new) } else { None } }
     }
 }
 
