@@ -190,6 +190,7 @@ fn a_gap_halves_forty_times(rt: HostRuntime) -> Result<(), Fail> {
 }
 
 const DATA: i64 = 1;
+
 const FLAG: i64 = 2;
 
 /// A thread writes at the last place of a location. A message that releases has what the thread has seen then.

@@ -2,8 +2,8 @@
 //! that it was raised at, and contracts see it as a function that is 0 everywhere else (`specs/Seen.antt`).
 #![tactic(auto)]
 
-mod entry;
 mod entries;
+mod entry;
 mod view;
 
 pub use entry::Entry;

@@ -4,8 +4,8 @@ ghost use Rattle.fsl_view.specs.Seen.{unseen, joined, raised};
 ghost use Rattle.fsl_view.specs.Entries.{raise_in, join_in};
 ghost use Rattle.fsl_view.specs.View.{seen};
 
-use crate::entry::Entry;
 use crate::entries::{look, missing, raise, raise_each};
+use crate::entry::Entry;
 use std::alloc::{AllocError, Global};
 use std::marker::Model;
 
