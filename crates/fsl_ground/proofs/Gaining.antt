@@ -23,27 +23,25 @@ use Rattle.fsl_ground.proofs.Ground.{ground_by_knowing, ground_by_giving}
 -- ---- what was gained
 
 -- the cells that atoms ask for, and all else
-pub cells_of : List Atom → Heap
+abbrev pub cells_of : List Atom → Heap
 cells_of ys (Cell c) = demand ys (Cell c)
 cells_of ys (Permission l part) = 0
 cells_of ys (Tokens b) = 0
 cells_of ys (Bank b) = 0
 
-pub else_of : List Atom → Heap
+abbrev pub else_of : List Atom → Heap
 else_of ys (Cell c) = 0
 else_of ys (Permission l part) = demand ys (Permission l part)
 else_of ys (Tokens b) = demand ys (Tokens b)
 else_of ys (Bank b) = demand ys (Bank b)
 
 pub in_two : (ys : List Atom) (r : Resource) → cells_of ys r + else_of ys r ≡ demand ys r
-unfolding cells_of else_of
 in_two ys (Cell c) = omega arith
 in_two ys (Permission l part) = omega arith
 in_two ys (Tokens b) = omega arith
 in_two ys (Bank b) = omega arith
 
 no_cell : (ys : List Atom) (c : ℤ) → else_of ys (Cell c) ≡ 0
-unfolding else_of
 no_cell ys c = refl
 
 out_here : (k : Known) (l : ℤ) (q : ℕ) (v : ℤ) → Has v ((with_out k l q v).out l q)
@@ -58,7 +56,7 @@ out_split k l q v u h =
     let t : (int_eq l l && (q == q)) ≡ true = rw (e, f) refl in
     subst (λ (b : Bool). Has u (if b then v ∷ k.out l q else k.out l q)) t h
 
-out_agrees : (k : Known) (l : ℤ) (q : ℕ) (v : ℤ) (r : Resource) → (r ≡ Permission l q → ⊥) → Agree k (with_out k l q v) r
+pub out_agrees : (k : Known) (l : ℤ) (q : ℕ) (v : ℤ) (r : Resource) → (r ≡ Permission l q → ⊥) → Agree k (with_out k l q v) r
 out_agrees k l q v (Cell c) n = refl
 out_agrees k l q v (Tokens b) n = tt
 out_agrees k l q v (Bank b) n = refl

@@ -1,0 +1,5 @@
+pub mod Pieces
+pub mod Shifting
+pub mod Acting
+pub mod Fencing
+pub mod Gaining
