@@ -90,6 +90,23 @@ else_placed l a (x ∷ xs) r h = let e = else_placed l a xs r h in let f = one x
 
 -- ---- what a thread has after a gain
 
+level_no_message : (t m q : ℕ) (a : Level) → holder_of t a ≡ holder.Message m q → ⊥
+level_no_message t m q AtPlain e = absurd (cc)
+level_no_message t m q AtUp e = absurd (cc)
+level_no_message t m q AtDown e = absurd (cc)
+
+-- what a message gives to a level of the thread comes there
+pub came_to : (t m q : ℕ) (l a : Level) (u v : World) (d : Heap) (r : Resource) → Gives u v (holder.Message m q) (holder_of t l) d → v (holder_of t a) r ≡ u (holder_of t a) r + (if same_level l a then d r else 0)
+came_to t m q AtPlain AtPlain u v d r g = let lost = g.loses.others (holder.Plain t) r (level_no_message t m q AtPlain) in let won = g.gains.here r in omega arith
+came_to t m q AtPlain AtUp u v d r g = let lost = g.loses.others (holder.Up t) r (level_no_message t m q AtUp) in let won = g.gains.others (holder.Up t) r (λ e. absurd (cc)) in omega arith
+came_to t m q AtPlain AtDown u v d r g = let lost = g.loses.others (holder.Down t) r (level_no_message t m q AtDown) in let won = g.gains.others (holder.Down t) r (λ e. absurd (cc)) in omega arith
+came_to t m q AtUp AtPlain u v d r g = let lost = g.loses.others (holder.Plain t) r (level_no_message t m q AtPlain) in let won = g.gains.others (holder.Plain t) r (λ e. absurd (cc)) in omega arith
+came_to t m q AtUp AtUp u v d r g = let lost = g.loses.others (holder.Up t) r (level_no_message t m q AtUp) in let won = g.gains.here r in omega arith
+came_to t m q AtUp AtDown u v d r g = let lost = g.loses.others (holder.Down t) r (level_no_message t m q AtDown) in let won = g.gains.others (holder.Down t) r (λ e. absurd (cc)) in omega arith
+came_to t m q AtDown AtPlain u v d r g = let lost = g.loses.others (holder.Plain t) r (level_no_message t m q AtPlain) in let won = g.gains.others (holder.Plain t) r (λ e. absurd (cc)) in omega arith
+came_to t m q AtDown AtUp u v d r g = let lost = g.loses.others (holder.Up t) r (level_no_message t m q AtUp) in let won = g.gains.others (holder.Up t) r (λ e. absurd (cc)) in omega arith
+came_to t m q AtDown AtDown u v d r g = let lost = g.loses.others (holder.Down t) r (level_no_message t m q AtDown) in let won = g.gains.here r in omega arith
+
 -- a holder of the thread has what it had, and what comes to it
 arrived : (asks : Meaning) (g : Graph) (done : List ℕ) (k : Known) (w : World) (m t : ℕ) (l : Level) (c : ℤ) (q : ℕ) (v : ℤ) (d : Deal) (x : Gained asks g done k w m t (holder_of t l) c q v d) (a : Level) (r : Resource)
     → demand_at a (all_placed l x.atoms) r + w (holder_of t a) r ≤ x.world (holder_of t a) r
@@ -99,24 +116,10 @@ arrived asks g done k w m t l c q v d x a r =
     let all = both r in
     omega arith
   where
-    not_message : (a : Level) → holder_of t a ≡ holder.Message m q → ⊥
-    not_message AtPlain e = absurd (cc)
-    not_message AtUp e = absurd (cc)
-    not_message AtDown e = absurd (cc)
-    given : (l a : Level) (u v : World) (d : Heap) → Gives u v (holder.Message m q) (holder_of t l) d → v (holder_of t a) r ≡ u (holder_of t a) r + (if same_level l a then d r else 0)
-    given AtPlain AtPlain u v d g = let lost = g.loses.others (holder.Plain t) r (not_message AtPlain) in let won = g.gains.here r in omega arith
-    given AtUp AtUp u v d g = let lost = g.loses.others (holder.Up t) r (not_message AtUp) in let won = g.gains.here r in omega arith
-    given AtDown AtDown u v d g = let lost = g.loses.others (holder.Down t) r (not_message AtDown) in let won = g.gains.here r in omega arith
-    given AtPlain AtUp u v d g = let lost = g.loses.others (holder.Up t) r (not_message AtUp) in let won = g.gains.others (holder.Up t) r (λ e. absurd (cc)) in omega arith
-    given AtPlain AtDown u v d g = let lost = g.loses.others (holder.Down t) r (not_message AtDown) in let won = g.gains.others (holder.Down t) r (λ e. absurd (cc)) in omega arith
-    given AtUp AtPlain u v d g = let lost = g.loses.others (holder.Plain t) r (not_message AtPlain) in let won = g.gains.others (holder.Plain t) r (λ e. absurd (cc)) in omega arith
-    given AtUp AtDown u v d g = let lost = g.loses.others (holder.Down t) r (not_message AtDown) in let won = g.gains.others (holder.Down t) r (λ e. absurd (cc)) in omega arith
-    given AtDown AtPlain u v d g = let lost = g.loses.others (holder.Plain t) r (not_message AtPlain) in let won = g.gains.others (holder.Plain t) r (λ e. absurd (cc)) in omega arith
-    given AtDown AtUp u v d g = let lost = g.loses.others (holder.Up t) r (not_message AtUp) in let won = g.gains.others (holder.Up t) r (λ e. absurd (cc)) in omega arith
     to_level : {u v : World} {d : Heap} → Gives u v (holder.Message m q) (holder_of t l) d → v (holder_of t a) r ≡ u (holder_of t a) r + (if same_level l a then d r else 0)
-    to_level {u = u} {v = v} {d = d} g = given l a u v d g
+    to_level {u = u} {v = v} {d = d} g = came_to t m q l a u v d r g
     to_plain : {u v : World} {d : Heap} → Gives u v (holder.Message m q) (holder.Plain t) d → v (holder_of t a) r ≡ u (holder_of t a) r + (if same_level AtPlain a then d r else 0)
-    to_plain {u = u} {v = v} {d = d} g = given AtPlain a u v d g
+    to_plain {u = u} {v = v} {d = d} g = came_to t m q AtPlain a u v d r g
     both : (r : Resource) → demand_at a (all_placed l x.atoms) r ≡ (if same_level l a then cells_of x.atoms r else 0) + (if same_level AtPlain a then else_of x.atoms r else 0)
     both (Cell c) = let e = cells_placed l a x.atoms c in let z = if_none (same_level AtPlain a) in omega arith
     both (Permission p o) = let e = else_placed l a x.atoms (Permission p o) tt in let z = if_none (same_level l a) in omega arith

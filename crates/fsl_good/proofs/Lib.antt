@@ -3,3 +3,4 @@ pub mod Shifting
 pub mod Acting
 pub mod Fencing
 pub mod Gaining
+pub mod Sending
