@@ -90,7 +90,7 @@ else_placed l a (x ∷ xs) r h = let e = else_placed l a xs r h in let f = one x
 
 -- ---- what a thread has after a gain
 
-level_no_message : (t m q : ℕ) (a : Level) → holder_of t a ≡ holder.Message m q → ⊥
+pub level_no_message : (t m q : ℕ) (a : Level) → holder_of t a ≡ holder.Message m q → ⊥
 level_no_message t m q AtPlain e = absurd (cc)
 level_no_message t m q AtUp e = absurd (cc)
 level_no_message t m q AtDown e = absurd (cc)
@@ -205,7 +205,7 @@ gain_each asks g done m t n l c v K k w xs (gains {rest = rest} inv args q out e
 -- ---- the load
 
 -- an atomic read tells the level at which it gains
-read_tells : (g : Graph) (done : List ℕ) (e s : ℕ) (x : Event) (m : Mode) (c v : ℤ) → Comes g done e x → Reads g e m c v → is_atomic m ≡ true → Rf g s e → (q : ℕ)
+pub read_tells : (g : Graph) (done : List ℕ) (e s : ℕ) (x : Event) (m : Mode) (c v : ℤ) → Comes g done e x → Reads g e m c v → is_atomic m ≡ true → Rf g s e → (q : ℕ)
     → Tells g (e ∷ done) (holder.Message s q) (holder_of x.thread (gaining m))
 read_tells g done e s x m c v comes reads atomic from q = by_mode (acquires m) refl
   where

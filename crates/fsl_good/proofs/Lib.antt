@@ -4,3 +4,5 @@ pub mod Acting
 pub mod Fencing
 pub mod Gaining
 pub mod Sending
+pub mod Passing
+pub mod Replacing

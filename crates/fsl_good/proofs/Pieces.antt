@@ -5,7 +5,7 @@ use Rattle.fsl_graph.specs.Positions.{Holder}
 use Rattle.fsl_graph.specs.Positions.{Holder as holder}
 use Rattle.fsl_own.specs.Owning.{Resource, Cell, Permission, Tokens, Bank, Heap, World, only, Known, limit, Owned}
 use Rattle.fsl_own.specs.Atoms.{Atom, Points, Init, Rel, Acq, RmwAcq, Tok, Auth, asked, demand, Says, IsInit, IsRight, AreRight}
-use Rattle.fsl_own.proofs.Totals.{none_or_some, total_three, only_elsewhere}
+use Rattle.fsl_own.proofs.Totals.{none_or_some, total_three, total_four}
 use Rattle.fsl_own.proofs.Owning.{at_most, two_at_most}
 use Rattle.fsl_good.specs.Laws.{FitsEntailed, FitsPossible}
 use Rattle.fsl_good.specs.Pieces.{Level, AtPlain, AtUp, AtDown, same_level, holder_of, Piece, level_at, placed, all_placed, plain, asked_at, demand_at, RightPieces, Fits, Entails, Yields, AllSay, IsPossible}
@@ -97,7 +97,7 @@ fits_entailed g done k w t xs ys f e = record {
 }
 
 -- what is right says what is known
-right_says : (g : Graph) (done : List ℕ) (k : Known) (h : Holder) (x : Atom) → IsRight g done k h x → Says k x
+pub right_says : (g : Graph) (done : List ℕ) (k : Known) (h : Holder) (x : Atom) → IsRight g done k h x → Says k x
 right_says g done k h (Points c n None) p = p
 right_says g done k h (Points c n (Some v)) p = p
 right_says g done k h (Init l) p = (p.deal, p.made)
@@ -121,6 +121,26 @@ three_at_most g done k w o a b c r m n p = elim (none_or_some (w a r)) [
     | inr i ↦ elim (none_or_some (w c r)) [
       | inl z ↦ let t = two_at_most g done k w o a b r m in omega arith
       | inr j ↦ let t = total_three o.holders w r a b c o.apart (o.support a r l) (o.support b r i) (o.support c r j) m n p in let q = o.within r in omega arith
+    ]
+  ]
+]
+
+-- nor have four
+pub four_at_most : (g : Graph) (done : List ℕ) (k : Known) (w : World) → Owned g done k w → (a b c d : Holder) (r : Resource) → (a ≡ b → ⊥) → (a ≡ c → ⊥) → (a ≡ d → ⊥) → (b ≡ c → ⊥) → (b ≡ d → ⊥) → (c ≡ d → ⊥)
+    → w a r + (w b r + (w c r + w d r)) ≤ limit k r
+four_at_most g done k w o a b c d r ab ac ad bc bd cd = elim (none_or_some (w a r)) [
+  | inl z ↦ let t = three_at_most g done k w o b c d r bc bd cd in omega arith
+  | inr i ↦ elim (none_or_some (w b r)) [
+    | inl z ↦ let t = three_at_most g done k w o a c d r ac ad cd in omega arith
+    | inr j ↦ elim (none_or_some (w c r)) [
+      | inl z ↦ let t = three_at_most g done k w o a b d r ab ad bd in omega arith
+      | inr l ↦ elim (none_or_some (w d r)) [
+        | inl z ↦ let t = three_at_most g done k w o a b c r ab ac bc in omega arith
+        | inr m ↦
+            let t = total_four o.holders w r a b c d o.apart (o.support a r i) (o.support b r j) (o.support c r l) (o.support d r m) ab ac ad bc bd cd in
+            let q = o.within r in
+            omega arith
+      ]
     ]
   ]
 ]

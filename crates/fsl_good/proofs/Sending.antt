@@ -35,7 +35,7 @@ use Rattle.fsl_good.proofs.Pieces.{demand_more, right_more, right_first, right_l
 use Rattle.fsl_good.proofs.Shifting.{keeps_then}
 use Rattle.fsl_good.proofs.Acting.{fits_later}
 use Rattle.fsl_good.proofs.Fencing.{thread_free, other_level}
-use Rattle.fsl_good.proofs.Gaining.{cells_placed, else_placed, if_none}
+use Rattle.fsl_good.proofs.Gaining.{cells_placed, else_placed, if_none, level_no_message}
 
 -- ---- one part
 
@@ -49,13 +49,8 @@ pub record SentOne (asks : Meaning) (g : Graph) (done but : List ℕ) (k : Known
   pub fits : Fits g done k world t rest
   pub holds : Holds g done k world (holder.Message e part) ys
 
-level_not_message : (t : ℕ) (a : Level) (e part : ℕ) → holder_of t a ≡ holder.Message e part → ⊥
-level_not_message t AtPlain e part q = absurd (cc)
-level_not_message t AtUp e part q = absurd (cc)
-level_not_message t AtDown e part q = absurd (cc)
-
 message_not_level : (t : ℕ) (a : Level) (e part : ℕ) → holder.Message e part ≡ holder_of t a → ⊥
-message_not_level t a e part q = level_not_message t a e part (sym q)
+message_not_level t a e part q = level_no_message t e part a (sym q)
 
 pub both_placed : (l a : Level) (ys : List Atom) (r : Resource) → demand_at a (all_placed l ys) r ≡ (if same_level l a then cells_of ys r else 0) + (if same_level AtPlain a then else_of ys r else 0)
 both_placed l a ys (Cell c) = let e = cells_placed l a ys c in let z = if_none (same_level AtPlain a) in omega (arith, e, z)
@@ -65,15 +60,15 @@ both_placed l a ys (Bank b) = let e = else_placed l a ys (Bank b) tt in let z = 
 
 -- what a holder of the thread has before a gift of one level: what it has after it, and the gift, if it is of its level
 gave_from : (t e part : ℕ) (l a : Level) (u v : World) (d : Heap) (r : Resource) → Gives u v (holder_of t l) (holder.Message e part) d → u (holder_of t a) r ≡ v (holder_of t a) r + (if same_level l a then d r else 0)
-gave_from t e part AtPlain AtPlain u v d r g = let lost = g.loses.here r in let won = g.gains.others (holder.Plain t) r (level_not_message t AtPlain e part) in omega arith
-gave_from t e part AtUp AtUp u v d r g = let lost = g.loses.here r in let won = g.gains.others (holder.Up t) r (level_not_message t AtUp e part) in omega arith
-gave_from t e part AtDown AtDown u v d r g = let lost = g.loses.here r in let won = g.gains.others (holder.Down t) r (level_not_message t AtDown e part) in omega arith
-gave_from t e part AtPlain AtUp u v d r g = let lost = g.loses.others (holder.Up t) r (λ q. absurd (cc)) in let won = g.gains.others (holder.Up t) r (level_not_message t AtUp e part) in omega arith
-gave_from t e part AtPlain AtDown u v d r g = let lost = g.loses.others (holder.Down t) r (λ q. absurd (cc)) in let won = g.gains.others (holder.Down t) r (level_not_message t AtDown e part) in omega arith
-gave_from t e part AtUp AtPlain u v d r g = let lost = g.loses.others (holder.Plain t) r (λ q. absurd (cc)) in let won = g.gains.others (holder.Plain t) r (level_not_message t AtPlain e part) in omega arith
-gave_from t e part AtUp AtDown u v d r g = let lost = g.loses.others (holder.Down t) r (λ q. absurd (cc)) in let won = g.gains.others (holder.Down t) r (level_not_message t AtDown e part) in omega arith
-gave_from t e part AtDown AtPlain u v d r g = let lost = g.loses.others (holder.Plain t) r (λ q. absurd (cc)) in let won = g.gains.others (holder.Plain t) r (level_not_message t AtPlain e part) in omega arith
-gave_from t e part AtDown AtUp u v d r g = let lost = g.loses.others (holder.Up t) r (λ q. absurd (cc)) in let won = g.gains.others (holder.Up t) r (level_not_message t AtUp e part) in omega arith
+gave_from t e part AtPlain AtPlain u v d r g = let lost = g.loses.here r in let won = g.gains.others (holder.Plain t) r (level_no_message t e part AtPlain) in omega arith
+gave_from t e part AtUp AtUp u v d r g = let lost = g.loses.here r in let won = g.gains.others (holder.Up t) r (level_no_message t e part AtUp) in omega arith
+gave_from t e part AtDown AtDown u v d r g = let lost = g.loses.here r in let won = g.gains.others (holder.Down t) r (level_no_message t e part AtDown) in omega arith
+gave_from t e part AtPlain AtUp u v d r g = let lost = g.loses.others (holder.Up t) r (λ q. absurd (cc)) in let won = g.gains.others (holder.Up t) r (level_no_message t e part AtUp) in omega arith
+gave_from t e part AtPlain AtDown u v d r g = let lost = g.loses.others (holder.Down t) r (λ q. absurd (cc)) in let won = g.gains.others (holder.Down t) r (level_no_message t e part AtDown) in omega arith
+gave_from t e part AtUp AtPlain u v d r g = let lost = g.loses.others (holder.Plain t) r (λ q. absurd (cc)) in let won = g.gains.others (holder.Plain t) r (level_no_message t e part AtPlain) in omega arith
+gave_from t e part AtUp AtDown u v d r g = let lost = g.loses.others (holder.Down t) r (λ q. absurd (cc)) in let won = g.gains.others (holder.Down t) r (level_no_message t e part AtDown) in omega arith
+gave_from t e part AtDown AtPlain u v d r g = let lost = g.loses.others (holder.Plain t) r (λ q. absurd (cc)) in let won = g.gains.others (holder.Plain t) r (level_no_message t e part AtPlain) in omega arith
+gave_from t e part AtDown AtUp u v d r g = let lost = g.loses.others (holder.Up t) r (λ q. absurd (cc)) in let won = g.gains.others (holder.Up t) r (level_no_message t e part AtUp) in omega arith
 
 level_self : (l : Level) → same_level l l ≡ true
 level_self AtPlain = refl
@@ -130,9 +125,9 @@ pub sent_keeps : (asks : Meaning) (g : Graph) (done but : List ℕ) (k : Known) 
 sent_keeps asks g done but k w t e part l ys rest x u a n = record {
   grows = λ r.
       let p = x.cells.loses.others (holder_of u a) r (other_level u t a l n) in
-      let q = x.cells.gains.others (holder_of u a) r (level_not_message u a e part) in
+      let q = x.cells.gains.others (holder_of u a) r (level_no_message u e part a) in
       let y = x.others.loses.others (holder_of u a) r (other_level u t a AtPlain n) in
-      let z = x.others.gains.others (holder_of u a) r (level_not_message u a e part) in
+      let z = x.others.gains.others (holder_of u a) r (level_no_message u e part a) in
       omega arith;
   agree = λ r o. same_agrees k r;
 }
@@ -206,7 +201,7 @@ send_all asks g done but k t e l rest (ys ∷ parts) first w x f tells =
 -- ---- the store
 
 -- what a write gives away is told to its message
-write_tells : (g : Graph) (done : List ℕ) (e : ℕ) (x : Event) (m : Mode) (c v : ℤ) → Comes g done e x → Writes g e m c v → is_atomic m ≡ true → (part : ℕ)
+pub write_tells : (g : Graph) (done : List ℕ) (e : ℕ) (x : Event) (m : Mode) (c v : ℤ) → Comes g done e x → Writes g e m c v → is_atomic m ≡ true → (part : ℕ)
     → Tells g (e ∷ done) (holder_of x.thread (giving m)) (holder.Message e part)
 write_tells g done e x m c v comes writes atomic part = by_mode (releases m) refl
   where
@@ -241,7 +236,7 @@ just_written g done k e x m c v d comes writes deals =
     record { deal = d; made = deals; write = e; past = inl refl; mode = m; value = v; writes = writes; known = own_event_known g done e x comes }
 
 -- what the new message sends is what was written, under the deal
-sends_this : (g : Graph) (k : Known) (e : ℕ) (m : Mode) (c v : ℤ) (d f : Deal) (l u : ℤ) → Writes g e m c v → k.deals c ≡ Some d → Sends g k e f l u → (d ≡ f) × (v ≡ u)
+pub sends_this : (g : Graph) (k : Known) (e : ℕ) (m : Mode) (c v : ℤ) (d f : Deal) (l u : ℤ) → Writes g e m c v → k.deals c ≡ Some d → Sends g k e f l u → (d ≡ f) × (v ≡ u)
 sends_this g k e m c v d f l u writes deals s =
     let same = one_write g e m s.mode c l v u writes s.writes in
     let q : Some d ≡ Some f = sym deals ∙ subst (λ (z : ℤ). k.deals z ≡ Some f) (sym same.1) s.made in

@@ -87,6 +87,28 @@ total_three (x ∷ xs) w r a b c p (inr i) (inr j) (inl e) m n o =
     let s : w c r ≡ w x r = ap (λ (z : Holder). w z r) e in let l = total_two xs w r a b i j m in omega arith
 total_three (x ∷ xs) w r a b c p (inr i) (inr j) (inr k) m n o = let l = total_three xs w r a b c p.1 i j k m n o in omega arith
 
+pub total_four : (hs : List Holder) (w : World) (r : Resource) (a b c d : Holder) → AllApart hs → Among a hs → Among b hs → Among c hs → Among d hs
+    → (a ≡ b → ⊥) → (a ≡ c → ⊥) → (a ≡ d → ⊥) → (b ≡ c → ⊥) → (b ≡ d → ⊥) → (c ≡ d → ⊥) → w a r + (w b r + (w c r + w d r)) ≤ total hs w r
+total_four [] w r a b c d p i j k l ab ac ad bc bd cd = elim i [ ]
+total_four (x ∷ xs) w r a b c d p (inl e) j k l ab ac ad bc bd cd =
+    let s : w a r ≡ w x r = ap (λ (z : Holder). w z r) e in
+    let m = total_three xs w r b c d p.1 (among_rest x b xs j (λ q. ab (e ∙ sym q))) (among_rest x c xs k (λ q. ac (e ∙ sym q))) (among_rest x d xs l (λ q. ad (e ∙ sym q))) bc bd cd in
+    omega arith
+total_four (x ∷ xs) w r a b c d p (inr i) (inl e) k l ab ac ad bc bd cd =
+    let s : w b r ≡ w x r = ap (λ (z : Holder). w z r) e in
+    let m = total_three xs w r a c d p.1 i (among_rest x c xs k (λ q. bc (e ∙ sym q))) (among_rest x d xs l (λ q. bd (e ∙ sym q))) ac ad cd in
+    omega arith
+total_four (x ∷ xs) w r a b c d p (inr i) (inr j) (inl e) l ab ac ad bc bd cd =
+    let s : w c r ≡ w x r = ap (λ (z : Holder). w z r) e in
+    let m = total_three xs w r a b d p.1 i j (among_rest x d xs l (λ q. cd (e ∙ sym q))) ab ad bd in
+    omega arith
+total_four (x ∷ xs) w r a b c d p (inr i) (inr j) (inr k) (inl e) ab ac ad bc bd cd =
+    let s : w d r ≡ w x r = ap (λ (z : Holder). w z r) e in
+    let m = total_three xs w r a b c p.1 i j k ab ac bc in
+    omega arith
+total_four (x ∷ xs) w r a b c d p (inr i) (inr j) (inr k) (inr l) ab ac ad bc bd cd =
+    let m = total_four xs w r a b c d p.1 i j k l ab ac ad bc bd cd in omega arith
+
 -- of holders among whom the one isn't that gets more
 pub total_outside : (hs : List Holder) (u v : World) (b : Holder) (d : Heap) (r : Resource) → Adds u v b d → (Among b hs → ⊥) → total hs v r ≡ total hs u r
 total_outside [] u v b d r a n = refl
