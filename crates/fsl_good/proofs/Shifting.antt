@@ -58,7 +58,7 @@ level_plain t AtUp e = cc
 level_plain t AtDown e = cc
 
 -- amounts of the other levels are as they were
-others_at : (u v : World) (t : ℕ) (d : Heap) (a : Level) (r : Resource) → Adds u v (holder.Plain t) d → v (holder_of t a) r ≡ u (holder_of t a) r + (if same_level a AtPlain then d r else 0)
+pub others_at : (u v : World) (t : ℕ) (d : Heap) (a : Level) (r : Resource) → Adds u v (holder.Plain t) d → v (holder_of t a) r ≡ u (holder_of t a) r + (if same_level a AtPlain then d r else 0)
 others_at u v t d AtPlain r a = a.here r
 others_at u v t d AtUp r a = let e = a.others (holder.Up t) r (λ e. absurd (cc)) in omega arith
 others_at u v t d AtDown r a = let e = a.others (holder.Down t) r (λ e. absurd (cc)) in omega arith

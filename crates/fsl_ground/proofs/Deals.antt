@@ -53,6 +53,29 @@ permissions_most l (suc n) r = elim (same_resource (Permission l n) r) [
   | inr f ↦ let z = only_elsewhere (Permission l n) r 1 f in let m = permissions_most l n r in omega arith
 ]
 
+-- a location that is allocated only now has no deal yet
+undealt : (asks : Meaning) (g : Graph) (done but : List ℕ) (k : Known) (w : World) (e : ℕ) (x : Event) (l : ℤ) (d : Deal) → IsDistinct g → Ground asks g done but k w → Comes g done e x
+    → x.label ≡ label.Alloc (kind_at d.rmw) l → (j : ℤ) (f : Deal) → k.deals j ≡ Some f → j ≡ l → ⊥
+undealt asks g done but k w e x l d distinct ground comes is j f q p =
+    let m = ground.made l f (subst (λ (z : ℤ). k.deals z ≡ Some f) p q) in
+    new_location asks g done but k w e x l (kind_at d.rmw) distinct ground comes is (kind_at f.rmw) m.alloc m.past m.made
+
+-- so those that there are stay
+pub deal_keeps : (asks : Meaning) (g : Graph) (done but : List ℕ) (k : Known) (w : World) (e : ℕ) (x : Event) (l : ℤ) (d : Deal) → IsDistinct g → Ground asks g done but k w → Comes g done e x
+    → x.label ≡ label.Alloc (kind_at d.rmw) l → KeepsDeals k (with_deal k l d)
+deal_keeps asks g done but k w e x l d distinct ground comes is j f q =
+    int_elsewhere j l (Some d) (k.deals j) (λ p. undealt asks g done but k w e x l d distinct ground comes is j f q p) ∙ q
+
+-- and what is known of what somebody has
+pub deal_agrees : (asks : Meaning) (g : Graph) (done but : List ℕ) (k : Known) (w : World) (e : ℕ) (x : Event) (l : ℤ) (d : Deal) → IsDistinct g → Ground asks g done but k w → Comes g done e x
+    → x.label ≡ label.Alloc (kind_at d.rmw) l → (h : Holder) (r : Resource) → 1 ≤ w h r → Agree k (with_deal k l d) r
+deal_agrees asks g done but k w e x l d distinct ground comes is h (Cell c) o = refl
+deal_agrees asks g done but k w e x l d distinct ground comes is h (Tokens b) o = tt
+deal_agrees asks g done but k w e x l d distinct ground comes is h (Bank b) o = refl
+deal_agrees asks g done but k w e x l d distinct ground comes is h (Permission j q) o =
+    let there : (f : Deal) × (k.deals j ≡ Some f) = ground.owned.there h (Permission j q) o in
+    int_elsewhere j l [] (k.out j q) (λ p. undealt asks g done but k w e x l d distinct ground comes is j there.0 there.1 p)
+
 pub alloc_deal : (asks : Meaning) (g : Graph) (done but : List ℕ) (k : Known) (w v : World) (e : ℕ) (x : Event) (l : ℤ) (d : Deal) (n : ℕ) → IsDistinct g → Ground asks g done but k w
     → Comes g done e x → x.label ≡ label.Alloc (kind_at d.rmw) l → Adds w v (holder.Plain x.thread) (permissions l n) → Ground asks g (e ∷ done) but (with_deal k l d) v
 alloc_deal asks g done but k w v e x l d n distinct ground comes is a =
@@ -79,16 +102,14 @@ alloc_deal asks g done but k w v e x l d n distinct ground comes is a =
       | inr p ↦ record { mode = s.mode; writes = s.writes; made = sym (int_elsewhere j l (Some d) (k.deals j) p) ∙ s.made }
     ])
     (λ m f j u part s due. due_before g (e ∷ done) k (with_deal k l d) m j u part f.rmw
-      (λ h. subst (λ (xs : List ℤ). Has u xs) (sym (int_elsewhere j l [] (k.out j part) (λ p. undealt f (subst (λ (z : ℤ). k.deals z ≡ Some f) p s.made)))) h) due)
+      (λ h. subst (λ (xs : List ℤ). Has u xs) (sym (int_elsewhere j l [] (k.out j part) (λ p. undealt asks g done but k w e x l d distinct ground comes is j f s.made p))) h) due)
     (λ m part r. let s = a.others (holder.Message m part) r (message_not_plain m part x.thread) in omega arith)
-    (λ m part r o. agrees m part r o)
+    (λ m part r o. deal_agrees asks g done but k w e x l d distinct ground comes is (holder.Message m part) r o)
   where
     new : (i : AllocKind) (b : ℕ) → In b done → Allocates g b i l → ⊥
     new = new_location asks g done but k w e x l (kind_at d.rmw) distinct ground comes is
-    undealt : (f : Deal) → k.deals l ≡ Some f → ⊥
-    undealt f q = let m = ground.made l f q in new (kind_at f.rmw) m.alloc m.past m.made
     keeps : KeepsDeals k (with_deal k l d)
-    keeps j f q = int_elsewhere j l (Some d) (k.deals j) (λ p. undealt f (subst (λ (z : ℤ). k.deals z ≡ Some f) p q)) ∙ q
+    keeps = deal_keeps asks g done but k w e x l d distinct ground comes is
     there_more : (r : Resource) → IsThere g (e ∷ done) k r → IsThere g (e ∷ done) (with_deal k l d) r
     there_more (Cell c) h = h
     there_more (Permission j q) h = (h.0, keeps j h.0 h.1)
@@ -105,15 +126,8 @@ alloc_deal asks g done but k w v e x l d n distinct ground comes is a =
     limits (Bank b) c h none = let z = none_of (Bank b) (λ q p. absurd (cc)) in omega arith
     limits (Permission j q) c h none = elim (int_or j l) [
       | inl p ↦
-          let no = none (λ z o. let there : (f : Deal) × (k.deals j ≡ Some f) = ground.owned.there z (Permission j q) o in undealt there.0 (subst (λ (y : ℤ). k.deals y ≡ Some there.0) p there.1)) in
+          let no = none (λ z o. let there : (f : Deal) × (k.deals j ≡ Some f) = ground.owned.there z (Permission j q) o in undealt asks g done but k w e x l d distinct ground comes is j there.0 there.1 p) in
           let most = permissions_most l n (Permission j q) in
           omega arith
       | inr f ↦ let z = none_of (Permission j q) (λ y p. f (sym (permission_loc l j y q p))) in omega arith
     ]
-    agrees : (m part : ℕ) (r : Resource) → 1 ≤ w (holder.Message m part) r → Agree k (with_deal k l d) r
-    agrees m part (Cell c) o = refl
-    agrees m part (Tokens b) o = tt
-    agrees m part (Bank b) o = refl
-    agrees m part (Permission j q) o =
-        let there : (f : Deal) × (k.deals j ≡ Some f) = ground.owned.there (holder.Message m part) (Permission j q) o in
-        int_elsewhere j l [] (k.out j q) (λ p. undealt there.0 (subst (λ (y : ℤ). k.deals y ≡ Some there.0) p there.1))
