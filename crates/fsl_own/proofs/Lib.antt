@@ -1,3 +1,6 @@
 pub mod Knowing
 pub mod Telling
 pub mod Reading
+pub mod Totals
+pub mod Owning
+pub mod Atoms

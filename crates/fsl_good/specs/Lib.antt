@@ -1,0 +1,4 @@
+pub mod Pieces
+pub mod Good
+pub mod Keeping
+pub mod Laws
