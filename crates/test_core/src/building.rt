@@ -47,6 +47,14 @@ pub struct Slots {
     pub banks: &'static [u32],
 }
 
+// A name and banks. They are made before a procedure's parts are at hand, since whatever is at hand where a call fails
+// has to be dropped there.
+fn named(alloc: Global, name: &str, banks: &[u32]) -> Result<(Text, List<u32>), AllocError> {
+    let name = Text::from_str(alloc, name)?;
+    let banks = List::from_slice(alloc, banks)?;
+    Ok((name, banks))
+}
+
 /// A procedure.
 pub fn procedure(
     alloc: Global,
@@ -56,8 +64,7 @@ pub fn procedure(
     post: Asrt,
     body: List<Stmt>,
 ) -> Result<Proc, AllocError> {
-    let name = Text::from_str(alloc, name)?;
-    let banks = List::from_slice(alloc, slots.banks)?;
+    let (name, banks) = named(alloc, name, slots.banks)?;
     Ok(Proc {
         name,
         params: slots.params,
