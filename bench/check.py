@@ -3,7 +3,7 @@
 
     bench/check.py [PROGRAM]
 
-PROGRAM is the built program, ./fslpp without it. For each shape and size it prints the seconds of processor time of
+PROGRAM is a build of fslpp, the proved one without it. For each shape and size it prints the seconds of processor time of
 the best of three runs, the ratio to the size before, and how many bytes of memory the run took for each byte of the
 file.
 """

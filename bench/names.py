@@ -3,7 +3,7 @@
 
     bench/names.py [PROGRAM]
 
-PROGRAM is the built program, ./fslpp without it. In the first shape a procedure is empty, in the second it calls the
+PROGRAM is a build of fslpp, the proved one without it. In the first shape a procedure is empty, in the second it calls the
 one before it and has some names of its own, so that the largest file has almost 1 MB. For each shape and number it
 prints the seconds of processor time of the best of nine runs, less those of an empty `main`, and the ratio to the
 number before.

@@ -3,7 +3,7 @@
 
     bench/paths.py [PROGRAM [LENGTH ..]]
 
-PROGRAM is the built program, ./fslpp without it; each LENGTH is a number of `if`s, 12, 14 and 16 without them. For
+PROGRAM is a build of fslpp, the proved one without it; each LENGTH is a number of `if`s, 12, 14 and 16 without them. For
 each number of paths it prints the seconds of processor time of the best of three runs, less those of an empty `main`,
 the microseconds for each path, their ratio to those of the number before, and the greatest memory of a run, with its
 growth since the number before.

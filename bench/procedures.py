@@ -3,7 +3,7 @@
 
     bench/procedures.py [PROGRAM [COUNT ..]]
 
-PROGRAM is the built program, ./fslpp without it; each COUNT is a number of procedures. For each number it prints the
+PROGRAM is a build of fslpp, the proved one without it; each COUNT is a number of procedures. For each number it prints the
 seconds of processor time of the best of nine runs, less those of an empty `main`, the ratio to the number before, and
 the greatest memory of a run.
 """

@@ -3,7 +3,7 @@
 
     bench/reading.py [PROGRAM]
 
-PROGRAM is the built program, ./fslpp without it. The files are programs, but the rules built so far do not cover
+PROGRAM is a build of fslpp, the proved one without it. The files are programs, but the rules built so far do not cover
 them, so what is timed is reading: bytes, tokens, tree, names and types. For each size it prints the tokens, the
 seconds of the processor in the best of five runs, the tokens for each of these seconds, the ratio of the seconds to
 those of the size before, and how many bytes of memory the run took for each byte of the file.

@@ -3,7 +3,7 @@
 
     bench/run.py [PROGRAM]
 
-PROGRAM is the built program, ./fslpp without it. A run judges the program first, so the seconds of `check` are
+PROGRAM is a build of fslpp, the proved one without it. A run judges the program first, so the seconds of `check` are
 taken from those of `run`: what is left is one machine move for each statement and the text of the execution. For
 each shape and size it prints the moves a second (processor time, the best of 25 runs) and the ratio of the seconds
 to the size before.

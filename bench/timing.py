@@ -18,7 +18,7 @@ class Run(NamedTuple):
     memory: int
 
 
-def program(built="fslpp"):
+def program(built="crates/fslpp/out/fslpp"):
     """The program that is timed: the script's first argument, else this one of the repository."""
     return sys.argv[1] if len(sys.argv) > 1 else str(TOP / built)
 
