@@ -189,7 +189,7 @@ set_apart : (asks : Meaning) (g : Graph) (done : List ℕ) (k : Known) (w : Worl
 set_apart asks g done k w t apart rest x tells f =
     let d : Heap = demand_at AtUp (all_placed AtUp apart) in
     let v = give_to w (holder.Plain t) (holder.Up t) d
-        (λ r. let m = f.enough AtPlain r in let s = demand_more AtPlain (all_placed AtPlain apart) rest r in let e = apart_plain apart r in omega arith) in
+    (λ r. let m = f.enough AtPlain r in let s = demand_more AtPlain (all_placed AtPlain apart) rest r in let e = apart_plain apart r in omega arith) in
     record {
       world = v.0;
       ground = ground_by_giving asks g done [] k w v.0 (holder.Plain t) (holder.Up t) d x v.1 (λ c o. tells) (thread_free g done [] k t AtPlain);

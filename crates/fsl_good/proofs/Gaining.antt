@@ -51,6 +51,7 @@ cells_placed l a (x ∷ xs) c = let e = cells_placed l a xs c in let f = one x i
   where
     both : (b d : Bool) → ◌≡◌ {A = ℕ} (if b then 0 else 0) (if d then 0 else 0)
     both b d = sym (if_none b) ∙ if_none d
+
     one : (x : Atom) → asked_at a (placed l x) (Cell c) ≡ (if same_level l a then asked x (Cell c) else 0)
     one (Points d n v) = refl
     one (Init d) = refl
@@ -79,6 +80,7 @@ else_placed l a (x ∷ xs) r h = let e = else_placed l a xs r h in let f = one x
   where
     both : (b d : Bool) → ◌≡◌ {A = ℕ} (if b then 0 else 0) (if d then 0 else 0)
     both b d = sym (if_none b) ∙ if_none d
+
     one : (x : Atom) → asked_at a (placed l x) r ≡ (if same_level AtPlain a then asked x r else 0)
     one (Points d n v) = let z = not_of_cell d n r h in rw z (both (same_level l a) (same_level AtPlain a))
     one (Init d) = both (same_level l a) (same_level AtPlain a)
@@ -118,8 +120,10 @@ arrived asks g done k w m t l c q v d x a r =
   where
     to_level : {u v : World} {d : Heap} → Gives u v (holder.Message m q) (holder_of t l) d → v (holder_of t a) r ≡ u (holder_of t a) r + (if same_level l a then d r else 0)
     to_level {u = u} {v = v} {d = d} g = came_to t m q l a u v d r g
+
     to_plain : {u v : World} {d : Heap} → Gives u v (holder.Message m q) (holder.Plain t) d → v (holder_of t a) r ≡ u (holder_of t a) r + (if same_level AtPlain a then d r else 0)
     to_plain {u = u} {v = v} {d = d} g = came_to t m q AtPlain a u v d r g
+
     both : (r : Resource) → demand_at a (all_placed l x.atoms) r ≡ (if same_level l a then cells_of x.atoms r else 0) + (if same_level AtPlain a then else_of x.atoms r else 0)
     both (Cell c) = let e = cells_placed l a x.atoms c in let z = if_none (same_level AtPlain a) in omega arith
     both (Permission p o) = let e = else_placed l a x.atoms (Permission p o) tt in let z = if_none (same_level l a) in omega arith
@@ -155,6 +159,7 @@ gain_keeps asks g done k w m t l c q v d owned has x u a n = record {
     not_message AtPlain e = absurd (cc)
     not_message AtUp e = absurd (cc)
     not_message AtDown e = absurd (cc)
+
     not_level : (a b : Level) → holder_of u a ≡ holder_of t b → ⊥
     not_level a b e = other_level u t a b n e
 
@@ -223,12 +228,12 @@ atomic_load_acts asks g done e x k w m c v K xs consistent distinct ground comes
     let got = init_is_read g consistent done k e x m c v comes reads init in
     let accesses = ap access_by is ∙ ap (λ (b : Bool). Some (Accesses c b false)) atomic in
     let after = ground_by_quiet asks g done [] k w e x ground comes (record {
-          frees_none = λ d h. frees_not g e x d comes.is (λ q. absurd (let y : label.Load m c v ≡ label.Free d = sym is ∙ q in cc)) h;
-          uses = λ d h. absurd (let q = (one_access g e x h.event c d true false false h.changes (record { is = comes.is; accesses = accesses }) h.access).1 in cc);
-          writes = λ d u b y h l. absurd (writes_not g e x b d u comes.is (ap written_by is) y);
-        })
-        (atomic_is_safe asks g done [] k w e x c false init.deal distinct ground comes.is accesses init.made (λ t q. (got.source, source_of g e x got.source comes.is got.from)))
-        (λ d u b y q z. writes_not g e x y d u comes.is (ap written_by is) z)
-        (λ d j u s. writes_not g e x s.mode j u comes.is (ap written_by is) s.writes) in
+      frees_none = λ d h. frees_not g e x d comes.is (λ q. absurd (let y : label.Load m c v ≡ label.Free d = sym is ∙ q in cc)) h;
+      uses = λ d h. absurd (let q = (one_access g e x h.event c d true false false h.changes (record { is = comes.is; accesses = accesses }) h.access).1 in cc);
+      writes = λ d u b y h l. absurd (writes_not g e x b d u comes.is (ap written_by is) y);
+    })
+    (atomic_is_safe asks g done [] k w e x c false init.deal distinct ground comes.is accesses init.made (λ t q. (got.source, source_of g e x got.source comes.is got.from)))
+    (λ d u b y q z. writes_not g e x y d u comes.is (ap written_by is) z)
+    (λ d j u s. writes_not g e x s.mode j u comes.is (ap written_by is) s.writes) in
     gain_each asks g (e ∷ done) got.source x.thread got.mode (gaining m) c v K k w xs how after (fits_later g done e k w x.thread xs f) (inr got.past) got.writes
     (read_tells g done e got.source x m c v comes reads atomic got.from)

@@ -193,10 +193,13 @@ give_kept asks g done k w t e s l kept joins differ free tells x enough =
   where
     level : (a : Level) → holder.Message s 0 ≡ holder_of t a → ⊥
     level a q = level_no_message t s 0 a (sym q)
+
     new : (a : Level) → holder.Message e 0 ≡ holder_of t a → ⊥
     new a q = level_no_message t e 0 a (sym q)
+
     old : holder.Message e 0 ≡ holder.Message s 0 → ⊥
     old q = differ (sym (message_same e s q))
+
     second : (one : Handed asks g done (e ∷ []) k w (holder.Message s 0) (holder_of t l) (cells_of kept)) → Handed asks g done (e ∷ []) k one.world (holder.Message s 0) (holder.Plain t) (else_of kept)
         → KeptGiven asks g done k w t e s l kept joins
     second one two = record {
@@ -221,6 +224,7 @@ give_kept asks g done k w t e s l kept joins differ free tells x enough =
           let c = apart one.world two.world (holder.Message s 0) (holder.Plain t) (holder_of u a) (else_of kept) r two.gift (level_no_message u s 0 a) (other_level u t a AtPlain n) in
           omega arith;
     }
+
     first : Handed asks g done (e ∷ []) k w (holder.Message s 0) (holder_of t l) (cells_of kept) → KeptGiven asks g done k w t e s l kept joins
     first one = second one (hand asks g done (e ∷ []) k one.world (holder.Message s 0) (holder.Plain t) (else_of kept) one.ground
         (λ r. let a = enough r in let b = in_two kept r in let c = lost w one.world (holder.Message s 0) (holder_of t l) (cells_of kept) r one.gift (level l) in omega arith)
@@ -241,6 +245,7 @@ give_joins asks g done k w t e s joins differ free tells x enough joined = from 
   where
     same : (v : World) → Gives w v (holder.Message s 0) (holder.Plain t) (demand joins) → (r : Resource) → v (holder.Message e 0) r ≡ w (holder.Message e 0) r
     same v gift r = apart w v (holder.Message s 0) (holder.Plain t) (holder.Message e 0) (demand joins) r gift (λ q. differ (sym (message_same e s q))) (λ q. level_no_message t e 0 AtPlain (sym q))
+
     from : (v : World) × Gives w v (holder.Message s 0) (holder.Plain t) (demand joins) → JoinsGiven asks g done k w t e joins
     from v = record {
       world = v.0;
@@ -267,6 +272,7 @@ parts_right g done k t e s l on kept joins shares tells reads right = record {
   where
     behind : AreRight g done k (holder.Message s 0) (kept ++ joins)
     behind = right_back g done k (holder.Message s 0) on (kept ++ joins) right
+
     moved : (h : Holder) (xs : List Atom) → Tells g done (holder.Message s 0) h → AreRight g done k (holder.Message s 0) xs → AreRight g done k h xs
     moved h xs t p = stay_right g done done k k (λ h r. demand xs r) (holder.Message s 0) h xs (λ i q. q) t (λ j d q. q) (λ r o. same_agrees k r) (λ r. omega arith) p
 
@@ -308,6 +314,7 @@ pass_on asks g done k w t e s m new inv args K pool zs both x f held p =
   where
     all : (r : Resource) → demand p.on r + (demand p.kept r + demand p.joins r) ≤ w (holder.Message s 0) r
     all r = let a = p.divides.enough r in let b = held.enough r in let c = demand_append p.on (p.kept ++ p.joins) r in let d = demand_append p.kept p.joins r in omega arith
+
     last : (two : MineGiven asks g done k w t e s p.on p.kept p.joins p.mine p.rest) → KeptGiven asks g done k two.world t e s (gaining m) p.kept p.joins
         → Passed asks g done k w t e (all_placed (gaining m) p.kept ++ (all_placed AtPlain p.joins ++ p.rest)) p.atoms
     last two four = joined_up asks g done k w t e s (gaining m) p.on p.kept p.joins p.mine p.rest p.atoms p.meets p.shares
@@ -316,5 +323,6 @@ pass_on asks g done k w t e s m new inv args K pool zs both x f held p =
           (let a = (p.joined c o).0 in let b = two.fits.enough AtPlain (Cell c) in let d = four.came AtPlain (Cell c) in omega arith),
           (let a = (p.joined c o).1 in let b = two.filled (Cell c) in let d = four.message (Cell c) in omega arith),
         )))
+
     from : MineGiven asks g done k w t e s p.on p.kept p.joins p.mine p.rest → Passed asks g done k w t e (all_placed (gaining m) p.kept ++ (all_placed AtPlain p.joins ++ p.rest)) p.atoms
     from two = last two (give_kept asks g done k two.world t e s (gaining m) p.kept p.joins both.apart both.free both.reads two.ground two.left)

@@ -195,13 +195,17 @@ turn asks g done e x k w m c old new d xs consistent distinct ground comes is at
   where
     updates : Updates g e m c old new
     updates = record { event = x; is = comes.is; updates = is }
+
     reads : Reads g e m c old
     reads = record { event = x; is = comes.is; reads = ap read_by is }
+
     writes : Writes g e m c new
     writes = record { event = x; is = comes.is; writes = ap written_by is }
+
     is_due : (s : ℕ) (rmw : Bool) → rmw ≡ true → IsUnread g done s → IsDue g done k s c old 0 rmw
     is_due s true h u = (refl, u)
     is_due s false h u = absurd (cc)
+
     taking : (got : Got g done e c old) → HasPart asks g done k w got.source d 0 old → Turn asks g done k w x.thread e m c old new d xs
     taking got held = record {
       source = got.source;
@@ -221,6 +225,7 @@ turn asks g done e x k w m c old new d xs consistent distinct ground comes is at
         reads = read_tells g done e got.source x m c old comes reads atomic got.from 0;
       };
     }
+
     from : Got g done e c old → Turn asks g done k w x.thread e m c old new d xs
     from got = taking got (ground.messages got.source d c old 0 got.past (λ i. i) (record { mode = got.mode; writes = got.writes; made = deals })
         (is_due got.source d.rmw kind (update_takes g consistent done e got.source x m c old new comes updates got.from)))
@@ -234,10 +239,12 @@ passes_on asks g done k w t e m c old new inv args K xs deals h taken changed = 
   where
     known : changed.known.deals c ≡ Some (deal true inv args)
     known = changed.deals c (deal true inv args) deals
+
     pooled : Holds g (e ∷ done) changed.known changed.world (holder.Message h.source 0) (filter of_message h.atoms)
     pooled =
         let message = changed.others (holder.Message h.source 0) (λ q. absurd (cc)) in
         still_holds g (e ∷ done) (e ∷ done) k changed.known taken.world changed.world (holder.Message h.source 0) (filter of_message h.atoms) (λ a i. i) (λ a p. p) changed.deals message.grows message.agree taken.holds
+
     done_with : (p : Passes asks m new inv args K (filter of_message h.atoms) changed.pieces)
         → Passed asks g (e ∷ done) changed.known changed.world t e (all_placed (gaining m) p.kept ++ (all_placed AtPlain p.joins ++ p.rest)) p.atoms → Acted asks g (e ∷ done) k w t K
     done_with p passed = record {
@@ -258,8 +265,10 @@ passes_on asks g done k w t e m c old new inv args K xs deals h taken changed = 
           (keeps_then k k changed.known w taken.world changed.world (holder_of u a) (taken.others u a n) (changed.others (holder_of u a) (other_level u t a AtPlain n)))
           (passed.others u a n);
     }
+
     with_passes : Holds g (e ∷ done) changed.known changed.world (holder.Message h.source 0) (filter of_message h.atoms) → Passes asks m new inv args K (filter of_message h.atoms) changed.pieces → Acted asks g (e ∷ done) k w t K
     with_passes held p = done_with p (pass_on asks g (e ∷ done) changed.known changed.world t e h.source m new inv args K (filter of_message h.atoms) changed.pieces (h.both changed.known known) changed.ground changed.fits held p)
+
     with_pool : Holds g (e ∷ done) changed.known changed.world (holder.Message h.source 0) (filter of_message h.atoms) → Acted asks g (e ∷ done) k w t K
     with_pool held = with_passes held (changed.next (pool_possible g (e ∷ done) changed.known changed.world t h.source (filter of_message h.atoms) changed.pieces changed.ground.owned held changed.fits))
 
@@ -271,11 +280,13 @@ replace_acts asks g done e x k w m c old new K xs consistent distinct ground com
   where
     deals : k.deals c ≡ Some (deal true rep.inv rep.args)
     deals = (fits_entailed g done k w x.thread xs (plain (RmwAcq c rep.inv rep.args) ∷ []) f rep.leave).right.0
+
     with_taken : (h : Turn asks g done k w x.thread e m c old new (deal true rep.inv rep.args) xs) → Taken asks g (e ∷ done) k w x.thread e h.source h.atoms xs → Acted asks g (e ∷ done) k w x.thread K
     with_taken h taken = passes_on asks g done k w x.thread e m c old new rep.inv rep.args K xs deals h taken
         (shifts_keep asks g (e ∷ done) (e ∷ []) x.thread (λ zs. IsPossible (all_placed AtPlain (filter of_message h.atoms) ++ zs) → Passes asks m new rep.inv rep.args K (filter of_message h.atoms) zs) k taken.world
         (all_placed AtPlain (filter of_thread h.atoms) ++ xs)
         (rep.takes h.atoms h.asked (pool_possible g (e ∷ done) k taken.world x.thread h.source (filter of_message h.atoms) (all_placed AtPlain (filter of_thread h.atoms) ++ xs) taken.ground.owned taken.holds taken.fits))
         taken.ground taken.fits)
+
     with_turn : Turn asks g done k w x.thread e m c old new (deal true rep.inv rep.args) xs → Acted asks g (e ∷ done) k w x.thread K
     with_turn h = with_taken h (take asks g (e ∷ done) k w x.thread e h.source h.atoms xs h.ground h.fits h.holds (h.both k deals).free)

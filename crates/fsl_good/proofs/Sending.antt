@@ -86,10 +86,10 @@ pub send_one : (asks : Meaning) (g : Graph) (done but : List ℕ) (k : Known) (w
     → Fits g done k w t (all_placed l ys ++ rest) → Tells g done (holder_of t l) (holder.Message e part) → SentOne asks g done but k w t e part l ys rest
 send_one asks g done but k w t e part l ys rest x f tells =
     let one = give_to w (holder_of t l) (holder.Message e part) (cells_of ys)
-        (λ r. let m = f.enough l r in let s = demand_more l (all_placed l ys) rest r in let c = cells_within l ys r in omega arith) in
+    (λ r. let m = f.enough l r in let s = demand_more l (all_placed l ys) rest r in let c = cells_within l ys r in omega arith) in
     let ground = ground_by_giving asks g done but k w one.0 (holder_of t l) (holder.Message e part) (cells_of ys) x one.1 (λ c o. tells) (thread_free g done but k t l) in
     let two = give_to one.0 (holder.Plain t) (holder.Message e part) (else_of ys)
-        (λ r. let m = f.enough AtPlain r in let s = demand_more AtPlain (all_placed l ys) rest r in let c = else_within l ys r in let q = gave_from t e part l AtPlain w one.0 (cells_of ys) r one.1 in omega arith) in
+    (λ r. let m = f.enough AtPlain r in let s = demand_more AtPlain (all_placed l ys) rest r in let c = else_within l ys r in let q = gave_from t e part l AtPlain w one.0 (cells_of ys) r one.1 in omega arith) in
     record {
       mid = one.0;
       world = two.0;
@@ -174,7 +174,7 @@ send_all asks g done but k t e l rest [] first w x f tells = record {
 }
 send_all asks g done but k t e l rest (ys ∷ parts) first w x f tells =
     let split : all_placed l (ys ++ together parts) ++ rest ≡ all_placed l ys ++ (all_placed l (together parts) ++ rest) =
-        ap (λ (p : List Piece). p ++ rest) (placed_more l ys (together parts)) ∙ append_assoc_pieces (all_placed l ys) (all_placed l (together parts)) rest in
+    ap (λ (p : List Piece). p ++ rest) (placed_more l ys (together parts)) ∙ append_assoc_pieces (all_placed l ys) (all_placed l (together parts)) rest in
     let one = send_one asks g done but k w t e first l ys (all_placed l (together parts) ++ rest) x (subst (λ (p : List Piece). Fits g done k w t p) split f) (tells first) in
     let more = send_all asks g done but k t e l rest parts (suc first) one.world one.ground one.fits tells in
     record {
@@ -222,9 +222,9 @@ write_ground asks g done e x k w m c v d distinct ground comes writes accesses s
     })
     (atomic_is_safe asks g done [] k w e x c true d distinct ground comes.is accesses deals sourced)
     (λ z u b n q y.
-      let value = subst (λ (p : ℤ). IsValue g done p b) (sym (one_write g e m n c z v u writes y).1) (ground.right z b q) in
-      let made = ground.made c d deals in
-      kinds d.rmw (one_kind g distinct value.alloc made.alloc kind.Na (kind_at d.rmw) c value.made made.made))
+    let value = subst (λ (p : ℤ). IsValue g done p b) (sym (one_write g e m n c z v u writes y).1) (ground.right z b q) in
+    let made = ground.made c d deals in
+    kinds d.rmw (one_kind g distinct value.alloc made.alloc kind.Na (kind_at d.rmw) c value.made made.made))
   where
     kinds : (b : Bool) → kind.Na ≡ kind_at b → ⊥
     kinds true h = absurd (cc)
@@ -264,12 +264,15 @@ put_acts asks g done e x k w m c v K xs distinct ground comes is atomic f puts =
   where
     writes : Writes g e m c v
     writes = record { event = x; is = comes.is; writes = ap written_by is }
+
     own : Fits g (e ∷ done) k w x.thread (all_placed (giving m) (together puts.parts) ++ puts.rest)
     own = fits_later g done e k w x.thread (all_placed (giving m) (together puts.parts) ++ puts.rest)
         (fits_entailed g done k w x.thread xs (all_placed (giving m) (together puts.parts) ++ puts.rest) f puts.gives)
+
     begun : (d : Deal) → k.deals c ≡ Some d → Ground asks g (e ∷ done) (e ∷ []) k w
     begun d deals = write_ground asks g done e x k w m c v d distinct ground comes writes (ap access_by is ∙ ap (λ (b : Bool). Some (Accesses c b true)) atomic)
         (λ t q. absurd (let y : None ≡ Some t = sym (ap read_by is) ∙ q in cc)) (λ z q. absurd (let y : label.Store m c v ≡ label.Free z = sym is ∙ q in cc)) deals
+
     by_kind : (rmw : Bool) → IsFor k c rmw puts.inv puts.args → Acted asks g (e ∷ done) k w x.thread K
     by_kind false deals =
         let sent = send_all asks g (e ∷ done) (e ∷ []) k x.thread e (giving m) puts.rest puts.parts 0 w (begun (deal false puts.inv puts.args) deals) own (write_tells g done e x m c v comes writes atomic) in

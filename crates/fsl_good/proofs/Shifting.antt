@@ -161,8 +161,10 @@ shifts_keep asks g done but t K k w xs (mints {ys = ys} b n m e more) x f =
       enough = λ a r. let o = others_at w v.0 t (only (Tokens b) m) a r v.1 in let q = before.enough a r in minted a (only (Bank b) 1 r) (only (Tokens b) m r) (demand_at a ys r) (w (holder_of t a) r) (v.0 (holder_of t a) r) q o;
       right = (
         nat_here b (k.counts b + m) (k.counts b) ∙ ap (λ (c : ℕ). c + m) before.right.0,
-        (tt,
-        pieces_stay g done done k k' t ys (λ e i. i) (λ a e p. p) (λ l d e. e) (λ a r o. count_agrees k b (k.counts b + m) r (λ q. one_authority asks g done but k w t b n ys x before a (subst (λ (y : Resource). 1 ≤ demand_at a ys y) q o))) before.right.1),
+        (
+          tt,
+          pieces_stay g done done k k' t ys (λ e i. i) (λ a e p. p) (λ l d e. e) (λ a r o. count_agrees k b (k.counts b + m) r (λ q. one_authority asks g done but k w t b n ys x before a (subst (λ (y : Resource). 1 ≤ demand_at a ys y) q o))) before.right.1,
+        ),
       );
     } in
     after asks g done but k k' w v.0 t K (λ l d e. e) (λ h p. record {

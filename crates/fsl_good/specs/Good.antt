@@ -93,7 +93,7 @@ pub data Gains (asks : Meaning) (c v : ℤ) (level : Level) (K : List Piece → 
   enough : {xs : List Piece} → K xs → Gains asks c v level K xs
   gains : {xs rest : List Piece} (inv : ℕ) (args : List ℤ) (part : ℕ) (out : List ℤ) → Entails xs (plain (Acq c inv args part out) ∷ rest) → (Has v out → ⊥)
       → ((ys : List Atom) → asks (deal false inv args) part v ys → IsPossible (plain (Acq c inv args part (v ∷ out)) ∷ all_placed level ys ++ rest)
-          → Gains asks c v level K (plain (Acq c inv args part (v ∷ out)) ∷ all_placed level ys ++ rest))
+      → Gains asks c v level K (plain (Acq c inv args part (v ∷ out)) ∷ all_placed level ys ++ rest))
       → Gains asks c v level K xs
 
 -- a write gives all parts away
@@ -153,7 +153,7 @@ pub record Replaces (asks : Meaning) (m : Mode) (c old new : ℤ) (K : List Piec
   pub takes : (ys : List Atom) → asks (deal true inv args) 0 old ys
       → IsPossible (all_placed AtPlain (filter of_message ys) ++ (all_placed AtPlain (filter of_thread ys) ++ xs))
       → Shifts (λ zs. IsPossible (all_placed AtPlain (filter of_message ys) ++ zs) → Passes asks m new inv args K (filter of_message ys) zs)
-          (all_placed AtPlain (filter of_thread ys) ++ xs)
+      (all_placed AtPlain (filter of_thread ys) ++ xs)
 
 -- ---- fences
 

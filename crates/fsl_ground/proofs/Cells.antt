@@ -117,19 +117,19 @@ alloc_cell asks g done but k w v e x c distinct ground comes is a =
     } in
     ground_changed asks g (e ∷ done) but k k w v after
     (kept_by_gaining g (e ∷ done) k k w v (holder.Plain x.thread) (only (Cell c) full) after.owned a (λ r h. h)
-      (λ r l. subst (λ (z : Resource). IsThere g (e ∷ done) k z) (only_some (Cell c) r full l) alive)
-      (λ r n l none. elim (same_resource (Cell c) r) [
-        | inl q ↦
-            let no = none (λ h o. let there : IsAlive g done c = ground.owned.there h (Cell c) (subst (λ (z : Resource). 1 ≤ w h z) (sym q) o) in new kind.Na there.alloc there.past there.made) in
-            let most : limit k r ≡ full = subst (λ (z : Resource). limit k z ≡ full) q refl in
-            let here : only (Cell c) full r ≡ full = subst (λ (z : Resource). only (Cell c) full z ≡ full) q (only_here (Cell c) full) in
-            omega arith
-        | inr f ↦ let z = only_elsewhere (Cell c) r full f in omega arith
-      ])
-      (λ d l b m u i y. elim i [
-        | inl q ↦ absurd (writes_not g e x m d u comes.is (ap written_by is) (subst (λ (n : ℕ). Writes g n m d u) q y))
-        | inr j ↦ absurd (unwritten asks g done but k w c ground new b m u j (subst (λ (z : ℤ). Writes g b m z u) (sym (cell_same c d (only_some (Cell c) (Cell d) full l))) y))
-      ]))
+    (λ r l. subst (λ (z : Resource). IsThere g (e ∷ done) k z) (only_some (Cell c) r full l) alive)
+    (λ r n l none. elim (same_resource (Cell c) r) [
+      | inl q ↦
+          let no = none (λ h o. let there : IsAlive g done c = ground.owned.there h (Cell c) (subst (λ (z : Resource). 1 ≤ w h z) (sym q) o) in new kind.Na there.alloc there.past there.made) in
+          let most : limit k r ≡ full = subst (λ (z : Resource). limit k z ≡ full) q refl in
+          let here : only (Cell c) full r ≡ full = subst (λ (z : Resource). only (Cell c) full z ≡ full) q (only_here (Cell c) full) in
+          omega arith
+      | inr f ↦ let z = only_elsewhere (Cell c) r full f in omega arith
+    ])
+    (λ d l b m u i y. elim i [
+      | inl q ↦ absurd (writes_not g e x m d u comes.is (ap written_by is) (subst (λ (n : ℕ). Writes g n m d u) q y))
+      | inr j ↦ absurd (unwritten asks g done but k w c ground new b m u j (subst (λ (z : ℤ). Writes g b m z u) (sym (cell_same c d (only_some (Cell c) (Cell d) full l))) y))
+    ]))
     after.right (λ l d q. after.made l d q) (λ l d q. q) (λ m d l u i s. s) (λ m d l u part s q. q)
     (λ m part r. let s = a.others (holder.Message m part) r (message_not_plain m part x.thread) in omega arith)
     (λ m part r o. same_agrees k r)
@@ -155,22 +155,22 @@ store_cell asks g done but k w e x c v consistent distinct ground comes is all =
     let alive : IsAlive g done c = ground.owned.there (holder.Plain x.thread) (Cell c) some in
     let writes : Writes g e mode.Na c v = record { event = x; is = comes.is; writes = ap written_by is } in
     let forgotten : Ground asks g done but (with_value k c None) w =
-        ground_by_knowing asks g done but k (with_value k c None) w ground (λ r h. same_there g done k c None r h) (λ r. same_limit k c None r) (λ d u q. forget d u q) refl (λ l u part h. h)
-        (λ m part r o. agrees None m part r o) in
+    ground_by_knowing asks g done but k (with_value k c None) w ground (λ r h. same_there g done k c None r h) (λ r. same_limit k c None r) (λ d u q. forget d u q) refl (λ l u part h. h)
+    (λ m part r o. agrees None m part r o) in
     let after : Ground asks g (e ∷ done) but (with_value k c None) w =
-        ground_by_quiet asks g done but (with_value k c None) w e x forgotten comes (record {
-          frees_none = λ d f. frees_not g e x d comes.is (λ q. absurd (let y : label.Store mode.Na c v ≡ label.Free d = sym is ∙ q in cc)) f;
-          uses = λ d u. subst (λ (z : ℤ). 1 ≤ w (holder.Plain x.thread) (Cell z)) (used d u) some;
-          writes = λ d u m y h l.
-              let same = (one_write g e mode.Na m c d v u writes y).1 in
-              sym (alone g done k w ground.owned (holder.Plain x.thread) h (Cell c) all (subst (λ (z : ℤ). 1 ≤ w h (Cell z)) (sym same) l));
-        })
-        (plain_is_safe asks g done but (with_value k c None) w e x c true distinct forgotten comes (ap access_by is) some (λ q. all)
-          (λ t q. absurd (let y : None ≡ Some t = sym (ap read_by is) ∙ q in cc)))
-        (λ d u b m q y. absurd (let same = (one_write g e mode.Na m c d v u writes y).1 in
-            let none = subst (λ (z : ℤ). (with_value k c None).values z ≡ None) same (int_here c None (k.values c)) in
-            let f : None ≡ Some b = sym none ∙ q in cc))
-        (λ d l u s. alive_not_made g done c d distinct alive (ground.made c d (subst (λ (z : ℤ). k.deals z ≡ Some d) (sym (one_write g e mode.Na s.mode c l v u writes s.writes).1) s.made))) in
+    ground_by_quiet asks g done but (with_value k c None) w e x forgotten comes (record {
+      frees_none = λ d f. frees_not g e x d comes.is (λ q. absurd (let y : label.Store mode.Na c v ≡ label.Free d = sym is ∙ q in cc)) f;
+      uses = λ d u. subst (λ (z : ℤ). 1 ≤ w (holder.Plain x.thread) (Cell z)) (used d u) some;
+      writes = λ d u m y h l.
+          let same = (one_write g e mode.Na m c d v u writes y).1 in
+          sym (alone g done k w ground.owned (holder.Plain x.thread) h (Cell c) all (subst (λ (z : ℤ). 1 ≤ w h (Cell z)) (sym same) l));
+    })
+    (plain_is_safe asks g done but (with_value k c None) w e x c true distinct forgotten comes (ap access_by is) some (λ q. all)
+    (λ t q. absurd (let y : None ≡ Some t = sym (ap read_by is) ∙ q in cc)))
+    (λ d u b m q y. absurd (let same = (one_write g e mode.Na m c d v u writes y).1 in
+    let none = subst (λ (z : ℤ). (with_value k c None).values z ≡ None) same (int_here c None (k.values c)) in
+    let f : None ≡ Some b = sym none ∙ q in cc))
+    (λ d l u s. alive_not_made g done c d distinct alive (ground.made c d (subst (λ (z : ℤ). k.deals z ≡ Some d) (sym (one_write g e mode.Na s.mode c l v u writes s.writes).1) s.made))) in
     let last = known_is_overwritten g consistent done e x mode.Na c v comes writes (ground.owned.knows (holder.Plain x.thread) c some) in
     ground_by_knowing asks g (e ∷ done) but (with_value k c None) (with_value k c (Some v)) w after (λ r h. there_again r h) (λ r. limit_again r)
     (λ d u q. elim (int_or d c) [
@@ -189,13 +189,16 @@ store_cell asks g done but k w e x c v consistent distinct ground comes is all =
   where
     used : (d : ℤ) → UsesCell g e d → c ≡ d
     used d u = (one_access g e x u.event c d false false true u.changes (record { is = comes.is; accesses = ap access_by is }) u.access).0
+
     forget : (d u : ℤ) → (with_value k c None).values d ≡ Some u → IsValue g done d u
     forget d u q = elim (int_or d c) [
       | inl p ↦ absurd (let none = subst (λ (z : ℤ). (with_value k c None).values z ≡ None) (sym p) (int_here c None (k.values c)) in let f : None ≡ Some u = sym none ∙ q in cc)
       | inr n ↦ ground.right d u (sym (int_elsewhere d c None (k.values d) n) ∙ q)
     ]
+
     nobody : (m part : ℕ) → 1 ≤ w (holder.Message m part) (Cell c) → ⊥
     nobody m part l = absurd (let s = alone g done k w ground.owned (holder.Plain x.thread) (holder.Message m part) (Cell c) all l in cc)
+
     agrees : (o : Option ℤ) (m part : ℕ) (r : Resource) → 1 ≤ w (holder.Message m part) r → Agree k (with_value k c o) r
     agrees o m part (Cell d) l = elim (int_or d c) [
       | inl p ↦ absurd (nobody m part (subst (λ (z : ℤ). 1 ≤ w (holder.Message m part) (Cell z)) p l))
@@ -204,16 +207,19 @@ store_cell asks g done but k w e x c v consistent distinct ground comes is all =
     agrees o m part (Permission a b) l = refl
     agrees o m part (Tokens b) l = tt
     agrees o m part (Bank b) l = refl
+
     again : (m part : ℕ) (r : Resource) → 1 ≤ w (holder.Message m part) r → Agree (with_value k c None) (with_value k c (Some v)) r
     again m part (Cell d) l = agrees (Some v) m part (Cell d) l ∙ sym (agrees None m part (Cell d) l)
     again m part (Permission a b) l = refl
     again m part (Tokens b) l = tt
     again m part (Bank b) l = refl
+
     there_again : (r : Resource) → IsThere g (e ∷ done) (with_value k c None) r → IsThere g (e ∷ done) (with_value k c (Some v)) r
     there_again (Cell d) h = h
     there_again (Permission a b) h = h
     there_again (Tokens b) h = h
     there_again (Bank b) h = h
+
     limit_again : (r : Resource) → limit (with_value k c None) r ≤ limit (with_value k c (Some v)) r
     limit_again (Cell d) = omega arith
     limit_again (Permission a b) = omega arith
@@ -232,20 +238,19 @@ load_cell asks g done but k w e x c v u consistent distinct ground comes is some
     let value = ground.right c u known in
     let reads : Reads g e mode.Na c v = record { event = x; is = comes.is; reads = ap read_by is } in
     let from = known_is_read g consistent done e x mode.Na c v comes reads
-        (record { write = value.write; past = value.last.past; mode = value.mode; value = u; writes = value.writes }) (ground.owned.knows (holder.Plain x.thread) c some) in
+    (record { write = value.write; past = value.last.past; mode = value.mode; value = u; writes = value.writes }) (ground.owned.knows (holder.Plain x.thread) c some) in
     let one = one_last g consistent done c from.source value.write from.last value.last in
-    let same = (one_write g value.write from.mode value.mode c c v u (subst (λ (z : ℕ). Writes g z from.mode c v) one from.writes) value.writes).2 in
-    (
+    let same = (one_write g value.write from.mode value.mode c c v u (subst (λ (z : ℕ). Writes g z from.mode c v) one from.writes) value.writes).2 in (
       ground_by_quiet asks g done but k w e x ground comes (record {
         frees_none = λ d f. frees_not g e x d comes.is (λ q. absurd (let y : label.Load mode.Na c v ≡ label.Free d = sym is ∙ q in cc)) f;
         uses = λ d y. subst (λ (z : ℤ). 1 ≤ w (holder.Plain x.thread) (Cell z))
             (one_access g e x y.event c d false false false y.changes (record { is = comes.is; accesses = ap access_by is }) y.access).0 some;
         writes = λ d b m y h l. absurd (writes_not g e x m d b comes.is (ap written_by is) y);
       })
-      (plain_is_safe asks g done but k w e x c false distinct ground comes (ap access_by is) some (λ q. absurd (cc))
-        (λ t q. (from.source, source_of g e x from.source comes.is from.from)))
-      (λ d b y m q z. writes_not g e x m d b comes.is (ap written_by is) z)
-      (λ d l b s. writes_not g e x s.mode l b comes.is (ap written_by is) s.writes),
+          (plain_is_safe asks g done but k w e x c false distinct ground comes (ap access_by is) some (λ q. absurd (cc))
+          (λ t q. (from.source, source_of g e x from.source comes.is from.from)))
+          (λ d b y m q z. writes_not g e x m d b comes.is (ap written_by is) z)
+          (λ d l b s. writes_not g e x s.mode l b comes.is (ap written_by is) s.writes),
       same,
     )
 

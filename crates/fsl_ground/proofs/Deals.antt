@@ -82,10 +82,10 @@ alloc_deal asks g done but k w v e x l d n distinct ground comes is a =
     let after = quiet_keeps asks g done but k w e x ground comes (ap access_by is) (ap read_by is) (ap written_by is) in
     ground_changed asks g (e ∷ done) but k (with_deal k l d) w v after
     (kept_by_gaining g (e ∷ done) k (with_deal k l d) w v (holder.Plain x.thread) (permissions l n) after.owned a
-      (λ r h. there_more r h)
-      (λ r o. let m = permissions_at l n r o in subst (λ (z : Resource). IsThere g (e ∷ done) (with_deal k l d) z) m.2 (d, int_here l (Some d) (k.deals l)))
-      limits
-      (λ c o. absurd (let m = permissions_at l n (Cell c) o in let q = m.2 in cc)))
+    (λ r h. there_more r h)
+    (λ r o. let m = permissions_at l n r o in subst (λ (z : Resource). IsThere g (e ∷ done) (with_deal k l d) z) m.2 (d, int_here l (Some d) (k.deals l)))
+    limits
+    (λ c o. absurd (let m = permissions_at l n (Cell c) o in let q = m.2 in cc)))
     after.right
     (λ j f q. elim (int_or j l) [
       | inl p ↦
@@ -102,24 +102,29 @@ alloc_deal asks g done but k w v e x l d n distinct ground comes is a =
       | inr p ↦ record { mode = s.mode; writes = s.writes; made = sym (int_elsewhere j l (Some d) (k.deals j) p) ∙ s.made }
     ])
     (λ m f j u part s due. due_before g (e ∷ done) k (with_deal k l d) m j u part f.rmw
-      (λ h. subst (λ (xs : List ℤ). Has u xs) (sym (int_elsewhere j l [] (k.out j part) (λ p. undealt asks g done but k w e x l d distinct ground comes is j f s.made p))) h) due)
+    (λ h. subst (λ (xs : List ℤ). Has u xs) (sym (int_elsewhere j l [] (k.out j part) (λ p. undealt asks g done but k w e x l d distinct ground comes is j f s.made p))) h) due)
     (λ m part r. let s = a.others (holder.Message m part) r (message_not_plain m part x.thread) in omega arith)
     (λ m part r o. deal_agrees asks g done but k w e x l d distinct ground comes is (holder.Message m part) r o)
   where
     new : (i : AllocKind) (b : ℕ) → In b done → Allocates g b i l → ⊥
     new = new_location asks g done but k w e x l (kind_at d.rmw) distinct ground comes is
+
     keeps : KeepsDeals k (with_deal k l d)
     keeps = deal_keeps asks g done but k w e x l d distinct ground comes is
+
     there_more : (r : Resource) → IsThere g (e ∷ done) k r → IsThere g (e ∷ done) (with_deal k l d) r
     there_more (Cell c) h = h
     there_more (Permission j q) h = (h.0, keeps j h.0 h.1)
     there_more (Tokens b) h = h
     there_more (Bank b) h = h
+
     unsent : (m : ℕ) (y : Mode) (u : ℤ) → In m (e ∷ done) → Writes g m y l u → ⊥
     unsent m y u (inl q) z = writes_not g e x y l u comes.is (ap written_by is) (subst (λ (o : ℕ). Writes g o y l u) q z)
     unsent m y u (inr i) z = unwritten asks g done but k w l ground new m y u i z
+
     none_of : (r : Resource) → ((q : ℕ) → Permission l q ≡ r → ⊥) → permissions l n r ≡ 0
     none_of r f = elim (none_or_some (permissions l n r)) [ inl z ↦ z | inr o ↦ absurd (let m = permissions_at l n r o in f m.0 m.2) ]
+
     limits : (r : Resource) (c : ℕ) → c ≤ limit k r → (((h : Holder) → 1 ≤ w h r → ⊥) → c ≡ 0) → c + permissions l n r ≤ limit (with_deal k l d) r
     limits (Cell b) c h none = let z = none_of (Cell b) (λ q p. absurd (cc)) in omega arith
     limits (Tokens b) c h none = let z = none_of (Tokens b) (λ q p. absurd (cc)) in omega arith

@@ -94,7 +94,7 @@ pub gain_part : (asks : Meaning) (g : Graph) (done : List ℕ) (k : Known) (w : 
 gain_part asks g done k w m t n b l q v d x past writes deal loads has new tells =
     let held = x.messages m d l v q past (λ i. i) (record { mode = n; writes = writes; made = deal }) (due d.rmw loads) in
     let known = ground_by_knowing asks g done [] k (with_out k l q v) w x (λ r h. there_more r h) (λ r. limit_more r) x.right refl (λ j u p h. out_more k l q v j u p h)
-        (λ a p r o. agrees (holder.Message a p) (λ e. absurd (cc)) r o) in
+    (λ a p r o. agrees (holder.Message a p) (λ e. absurd (cc)) r o) in
     let one = give_to w (holder.Message m q) b (cells_of held.atoms) (λ r. let s = in_two held.atoms r in let e = held.holds.enough r in omega arith) in
     let ground = ground_by_giving asks g done [] (with_out k l q v) w one.0 (holder.Message m q) b (cells_of held.atoms) known one.1 (λ c o. tells) free in
     let two = give_to one.0 (holder.Message m q) (holder.Plain t) (else_of held.atoms) (λ r. left held.atoms held.holds.enough one.0 one.1 r) in
@@ -114,21 +114,26 @@ gain_part asks g done k w m t n b l q v d x past writes deal loads has new tells
     due : (rmw : Bool) → rmw ≡ false → IsDue g done k m l v q rmw
     due true e = absurd (cc)
     due false e = new
+
     agrees : (h : Holder) → (h ≡ holder.Plain t → ⊥) → (r : Resource) → 1 ≤ w h r → Agree k (with_out k l q v) r
     agrees h f r o = out_agrees k l q v r (λ e. f (sym (alone g done k w x.owned (holder.Plain t) h (Permission l q) has (subst (λ (y : Resource). 1 ≤ w h y) e o))))
+
     there_more : (r : Resource) → IsThere g done k r → IsThere g done (with_out k l q v) r
     there_more (Cell c) h = h
     there_more (Permission j p) h = h
     there_more (Tokens c) h = h
     there_more (Bank c) h = h
+
     limit_more : (r : Resource) → limit k r ≤ limit (with_out k l q v) r
     limit_more (Cell c) = omega arith
     limit_more (Permission j p) = omega arith
     limit_more (Tokens c) = omega arith
     limit_more (Bank c) = omega arith
+
     undue : (rmw : Bool) → rmw ≡ false → IsDue g done (with_out k l q v) m l v q rmw → ⊥
     undue true e u = absurd (cc)
     undue false e u = u (out_here k l q v)
+
     free : IsFree g done [] (with_out k l q v) (holder.Message m q)
     free a p f j z same i o s u =
         let at : m ≡ a = cc in
@@ -141,5 +146,6 @@ gain_part asks g done k w m t n b l q v d x past writes deal loads has new tells
         (subst (λ (y : ℤ). IsDue g done (with_out k l q v) a y v q f.rmw) (sym touch.1)
         (subst (λ (y : ℤ). IsDue g done (with_out k l q v) a j y q f.rmw) (sym touch.2)
         (subst (λ (y : ℕ). IsDue g done (with_out k l q v) a j z y f.rmw) (sym part) u))))
+
     left : (ys : List Atom) → ((r : Resource) → demand ys r ≤ w (holder.Message m q) r) → (mid : World) → Gives w mid (holder.Message m q) b (cells_of ys) → (r : Resource) → else_of ys r ≤ mid (holder.Message m q) r
     left ys enough mid gift r = let s = in_two ys r in let e = enough r in let lost = gift.loses.here r in let grew = grows gift.mid mid b (cells_of ys) (holder.Message m q) r gift.gains in omega arith

@@ -40,8 +40,8 @@ others_grow w v a b d h r g n =
 pub messages_kept : (asks : Meaning) (g : Graph) (done more but less : List ℕ) (k k' : Known) (w w' : World) → Messages asks g done but k w
     → ((e : ℕ) → In e done → In e more) → ((h : Holder) (e : ℕ) → Position g done h e → Position g more h e) → KeepsDeals k k'
     → ((m : ℕ) (d : Deal) (l v : ℤ) (part : ℕ) → In m more → (In m less → ⊥) → Sends g k' m d l v → IsDue g more k' m l v part d.rmw
-        → In m done × (In m but → ⊥) × Sends g k m d l v × IsDue g done k m l v part d.rmw
-        × ((r : Resource) → w (holder.Message m part) r ≤ w' (holder.Message m part) r) × ((r : Resource) → 1 ≤ w (holder.Message m part) r → Agree k k' r))
+    → In m done × (In m but → ⊥) × Sends g k m d l v × IsDue g done k m l v part d.rmw
+    × ((r : Resource) → w (holder.Message m part) r ≤ w' (holder.Message m part) r) × ((r : Resource) → 1 ≤ w (holder.Message m part) r → Agree k k' r))
     → Messages asks g more less k' w'
 messages_kept asks g done more but less k k' w w' messages past known deals due m d l v part i n s u =
     let q = due m d l v part i n s u in

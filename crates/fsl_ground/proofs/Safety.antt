@@ -154,11 +154,14 @@ plain_is_safe asks g done but k w e x c changes distinct ground comes accesses s
   where
     one : (y : Event) (z : ℤ) (atomic writes : Bool) → IsAccess g e y z atomic writes → (c ≡ z) × (false ≡ atomic) × (changes ≡ writes)
     one y z atomic writes acc = one_access g e x y c z false atomic changes writes (record { is = comes.is; accesses = accesses }) acc
+
     plain : (a : ℕ) (y : Event) (atomic writes : Bool) → In a done → IsAccess g a y c atomic writes → atomic ≡ false
     plain a y true writes i acc = absurd (alive_not_atomic g done c distinct (ground.owned.there (holder.Plain x.thread) (Cell c) some) (ground.safe.allocated a y c true writes i acc))
     plain a y false writes i acc = refl
+
     uses : (a : ℕ) (y : Event) (atomic writes : Bool) → In a done → IsAccess g a y c atomic writes → UsesCell g a c
     uses a y atomic writes i acc = record { event = y; changes = writes; access = subst (λ (b : Bool). IsAccess g a y c b writes) (plain a y atomic writes i acc) acc }
+
     changed_before : (a : ℕ) (y : Event) (atomic : Bool) → In a done → IsAccess g a y c atomic true → Hb g a e
     changed_before a y atomic i acc =
         let p : access_by y.label ≡ Some (Accesses c false true) = subst (λ (b : Bool). access_by y.label ≡ Some (Accesses c b true)) (plain a y atomic true i acc) acc.accesses in

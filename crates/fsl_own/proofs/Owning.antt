@@ -94,7 +94,7 @@ given g done k w v a b d o gift knows covers =
     let z = widen o.holders o.apart a in
     let y = widen z.list z.apart b in
     let before : (r : Resource) → total y.list w r ≡ total o.holders w r =
-        λ r. y.same w r (λ h l. z.more h (o.support h r l)) ∙ z.same w r (λ h l. o.support h r l) in
+    λ r. y.same w r (λ h l. z.more h (o.support h r l)) ∙ z.same w r (λ h l. o.support h r l) in
     record {
       holders = y.list;
       apart = y.apart;
@@ -281,12 +281,12 @@ pub kept_by_free : KeptByFree
 kept_by_free g done k w u e x c o comes frees all a =
     let z = widen o.holders o.apart (holder.Plain x.thread) in
     let gone : (h : Holder) → 1 ≤ u h (Cell c) → ⊥ = λ h l.
-        let s = alone g done k w o (holder.Plain x.thread) h (Cell c) all (had u w (holder.Plain x.thread) (only (Cell c) full) h (Cell c) a l) in
-        let left : 1 ≤ u (holder.Plain x.thread) (Cell c) = subst (λ (y : Holder). 1 ≤ u y (Cell c)) (sym s) l in
-        let sum = a.here (Cell c) in
-        let most = at_most g done k w o (holder.Plain x.thread) (Cell c) in
-        let one = only_here (Cell c) full in
-        absurd (omega arith) in
+    let s = alone g done k w o (holder.Plain x.thread) h (Cell c) all (had u w (holder.Plain x.thread) (only (Cell c) full) h (Cell c) a l) in
+    let left : 1 ≤ u (holder.Plain x.thread) (Cell c) = subst (λ (y : Holder). 1 ≤ u y (Cell c)) (sym s) l in
+    let sum = a.here (Cell c) in
+    let most = at_most g done k w o (holder.Plain x.thread) (Cell c) in
+    let one = only_here (Cell c) full in
+    absurd (omega arith) in
     let freed : IsFreed g e c = record { event = x; is = comes.is; frees = frees } in
     record {
       holders = z.list;
@@ -315,9 +315,9 @@ kept_by_free g done k w u e x c o comes frees all a =
           | inr j ↦ elim (o.seen b d j y) [
             | by_free f q r s ↦ by_free f (inr q) r s
             | by_holder h l p ↦ by_holder h (elim (new_or_had u w (holder.Plain x.thread) (only (Cell c) full) h (Cell d) a l) [
-                | inl m ↦ m
-                | inr r ↦ absurd (n (only_some (Cell c) (Cell d) full r.1))
-              ]) (positions_grow g done e h b p)
+              | inl m ↦ m
+              | inr r ↦ absurd (n (only_some (Cell c) (Cell d) full r.1))
+            ]) (positions_grow g done e h b p)
           ]
         ]
       ];

@@ -68,6 +68,7 @@ made_acts asks g done e x k w c d n K xs news distinct ground comes is f amounts
   where
     agrees : (h : Holder) (r : Resource) → 1 ≤ w h r → Agree k (with_deal k c d) r
     agrees h r o = deal_agrees asks g done [] k w e x c d distinct ground comes is h r o
+
     from : (v : World) × Adds w v (holder.Plain x.thread) (permissions c n) → Acted asks g (e ∷ done) k w x.thread K
     from v = record {
       known = with_deal k c d;

@@ -58,7 +58,7 @@ advance l p g done t e x o owed rest last c n es (silent {n = m} local r) s is k
     let changed = shifts_keep l.asks g done [] t (Good l p o m (moved p c reply.Nothing).config (map owed (children_of c))) k w pieces ((good possible).1 local) ground fits in
     let none : children_of c ≡ children_of (moved p c reply.Nothing).config = children.0 ∙ sym children.1 in
     let go = advance l p g done t e x o owed rest last (moved p c reply.Nothing).config m es r s is changed.known changed.world changed.pieces changed.ground changed.fits
-        (subst (λ (xs : List ℕ). Good l p o m (moved p c reply.Nothing).config (map owed xs) changed.pieces) none changed.next) in
+    (subst (λ (xs : List ℕ). Good l p o m (moved p c reply.Nothing).config (map owed xs) changed.pieces) none changed.next) in
     record {
       known = go.known;
       world = go.world;

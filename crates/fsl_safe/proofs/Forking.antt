@@ -115,18 +115,22 @@ spawn_all asks g done k t rest [] first n w long x f children = record {
 spawn_all asks g done k t rest (ys ∷ atoms) first zero w long x f children = absurd (omega (arith, long))
 spawn_all asks g done k t rest (ys ∷ atoms) first (suc n) w long x f children =
     from (give asks g done k w t first ys x (λ r. let p = whole.enough AtPlain r in let q = demand_more AtPlain (all_placed AtPlain ys) behind r in let s = plain_demand AtPlain ys r in omega arith) here.1)
-        (λ v y h. spawn_all asks g done k t rest atoms (first + 1) n v (omega (arith, long)) y h (λ u i. children u (inr i)))
+    (λ v y h. spawn_all asks g done k t rest atoms (first + 1) n v (omega (arith, long)) y h (λ u i. children u (inr i)))
   where
     here : (t ≡ first → ⊥) × Tells g done (holder.Plain t) (holder.Plain first)
     here = children first (inl refl)
+
     behind : List Piece
     behind = all_placed AtPlain (together atoms) ++ rest
+
     whole : Fits g done k w t (all_placed AtPlain ys ++ (all_placed AtPlain (together atoms) ++ rest))
     whole = subst (λ (p : List Piece). Fits g done k w t p)
         (ap (λ (p : List Piece). p ++ rest) (placed_more AtPlain ys (together atoms)) ∙ pieces_behind (all_placed AtPlain ys) (all_placed AtPlain (together atoms)) rest) f
+
     own : (v : Given asks g done k w t first ys) → Fits g done k v.world first (all_placed AtPlain ys)
     own v = subst (λ (p : List Piece). Fits g done k v.world first p) (append_none (all_placed AtPlain ys))
         (front_comes g done k w v.world t first ys [] here.0 v.gift (given_right g done k t first ys here.1 (right_first g done k t (all_placed AtPlain ys) (all_placed AtPlain (together atoms) ++ rest) whole.right)) (no_pieces g done k w first))
+
     each_of : (v : Given asks g done k w t first ys) → (more : Spawned asks g done k v.world t (first + 1) atoms rest) → (j : ℕ) (zs : List Atom) → slice_get (ys ∷ atoms) j ≡ Some zs
         → Fits g done k more.world (first + j) (all_placed AtPlain zs)
     each_of v more zero zs e =
@@ -138,6 +142,7 @@ spawn_all asks g done k t rest (ys ∷ atoms) first (suc n) w long x f children 
     each_of v more (suc j) zs e =
         let n : first + 1 + j ≡ first + suc j = omega arith in
         subst (λ (u : ℕ). Fits g done k more.world u (all_placed AtPlain zs)) n (more.each j zs e)
+
     from : (v : Given asks g done k w t first ys) → ((y : World) → Ground asks g done [] k y → Fits g done k y t (all_placed AtPlain (together atoms) ++ rest) → Spawned asks g done k y t (first + 1) atoms rest)
         → Spawned asks g done k w t first (ys ∷ atoms) rest
     from v go =
@@ -190,7 +195,7 @@ child_of l g done k w owed (o ∷ os) (call ∷ calls) (ys ∷ atoms) first u st
 })
 child_of l g done k w owed (o ∷ os) (call ∷ calls) (ys ∷ atoms) first u starts started fits (inr i) =
     let c = child_of l g done k w owed os calls atoms (first + 1) u starts.1 (subst (λ (v : ℕ). AreStarted g v calls) (sym (one_more first)) started.1)
-        (λ j zs e. subst (λ (v : ℕ). Fits g done k w v (all_placed AtPlain zs)) (step_on first j) (fits (suc j) zs e)) i in
+    (λ j zs e. subst (λ (v : ℕ). Fits g done k w v (all_placed AtPlain zs)) (step_on first j) (fits (suc j) zs e)) i in
     let far = above_first (first + 1) (length calls) u i in
     record {
       call = c.call;
@@ -269,15 +274,20 @@ fork_stands l p g last done e x cs accepted ex comes is s h sp = record {
   where
     owed : ℕ → l.Owed
     owed = with_owed (first_of cs) h.spawns.owed s.owed
+
     long : length h.spawns.owed ≡ length h.calls
     long = (starts_long l h.spawns.owed h.calls h.spawns.atoms h.spawns.starts).0
+
     listed : cs ≡ numbers_from (first_of cs) (length h.spawns.owed)
     listed = h.numbers ∙ ap (numbers_from (first_of cs)) (sym long)
+
     old_owed : (u : ℕ) → (In u cs → ⊥) → with_owed (first_of cs) h.spawns.owed s.owed u ≡ s.owed u
     old_owed u n = owed_other (first_of cs) h.spawns.owed s.owed u (λ i. n (subst (λ (us : List ℕ). In u us) (sym listed) i))
+
     begun_old : (u : ℕ) → IsBegun g done u → In u cs → ⊥
     begun_old u (inl z) i = ex.first e (subst (λ (v : ℕ). Starts g e v) z (does_start g e u x cs comes.is is i))
     begun_old u (inr b) i = comes.fresh (subst (λ (d : ℕ). In d done) (ex.once b.0 e u b.2 (does_start g e u x cs comes.is is i)) b.1)
+
     unawaited_child : (u : ℕ) → In u cs → IsAwaited g (e ∷ done) u → ⊥
     unawaited_child u i w = elim w.2 [
       | inl q ↦ no_join g e u w.1 x comes.is (λ rs y. absurd (let z : label.Fork cs ≡ label.Join rs = sym is ∙ y in cc)) (subst (λ (d : ℕ). Awaits g d u w.1) q w.3)
@@ -285,6 +295,7 @@ fork_stands l p g last done e x cs accepted ex comes is s h sp = record {
           let n = awaited_done p g last done u ex comes.closed (w.0, w.1, o, w.3) in
           child_new g done e x cs comes is n.0 n.2.event n.2.is (subst (λ (v : ℕ). In v cs) (sym n.2.thread) i) n.3
     ]
+
     parent : Goes l p g (e ∷ done) h.m.reached.known sp.world (with_owed (first_of cs) h.spawns.owed s.owed) x.thread (last x.thread)
     parent = record {
       config = h.m.reached.next;
@@ -305,9 +316,11 @@ fork_stands l p g last done e x cs accepted ex comes is s h sp = record {
         | inr o ↦ h.m.goes.unended d o c
       ];
     }
+
     none_done : (u : ℕ) → In u cs → (d : ℕ) (y : Event) → Is g d y → y.thread ≡ u → In d (e ∷ done) → ⊥
     none_done u i d y at t (inl q) = not_own_child g done e x cs comes is (subst (λ (v : ℕ). In v cs) (sym t ∙ ap (λ (z : Event). z.thread) (one_event g e y x (subst (λ (o : ℕ). Is g o y) q at) comes.is)) i)
     none_done u i d y at t (inr o) = child_new g done e x cs comes is d y at (subst (λ (v : ℕ). In v cs) (sym t) i) o
+
     begins : (u : ℕ) → In u cs → (c : Child l g (e ∷ done) h.m.reached.known sp.world (with_owed (first_of cs) h.spawns.owed s.owed) u)
         → Goes l p g (e ∷ done) h.m.reached.known sp.world (with_owed (first_of cs) h.spawns.owed s.owed) u (last u)
     begins u i c =
@@ -328,6 +341,7 @@ fork_stands l p g last done e x cs accepted ex comes is s h sp = record {
               (sym none) (accepted (with_owed (first_of cs) h.spawns.owed s.owed u) c.call c.atoms c.starts thread.moves);
           unended = λ d o y. none_done u i d y.event y.is y.thread o;
         }
+
     old : (u : ℕ) → (u ≡ x.thread → ⊥) → (IsAwaited g (e ∷ done) u → ⊥) → IsBegun g done u
         → Goes l p g (e ∷ done) h.m.reached.known sp.world (with_owed (first_of cs) h.spawns.owed s.owed) u (last u) ⊎ HasEnded l g (e ∷ done) h.m.reached.known sp.world (with_owed (first_of cs) h.spawns.owed s.owed) u (last u)
     old u f unawaited begun = stands_after l p g done e x s.known h.m.reached.known s.world sp.world s.owed (with_owed (first_of cs) h.spawns.owed s.owed) u (last u) comes.is (λ q. f (sym q)) (record {
@@ -337,6 +351,7 @@ fork_stands l p g last done e x cs accepted ex comes is s h sp = record {
       begun = begun;
       waits = λ v r c w. no_join g e v r x comes.is (λ rs y. absurd (let z : label.Fork cs ≡ label.Join rs = sym is ∙ y in cc)) w;
     }) (s.thread u begun (unawaited_before g done e u unawaited))
+
     other : (u : ℕ) → (u ≡ x.thread → ⊥) → (IsAwaited g (e ∷ done) u → ⊥) → IsBegun g (e ∷ done) u
         → Goes l p g (e ∷ done) h.m.reached.known sp.world (with_owed (first_of cs) h.spawns.owed s.owed) u (last u) ⊎ HasEnded l g (e ∷ done) h.m.reached.known sp.world (with_owed (first_of cs) h.spawns.owed s.owed) u (last u)
     other u f unawaited (inl z) = old u f unawaited (inl z)
@@ -355,21 +370,22 @@ fork_step l p g last done e x cs accepted ex comes is s = with_mover (mover l p 
     with_forks : Forks l p g last done e x cs s → AllStand l p g last (e ∷ done)
     with_forks h =
         let own = fits_later g done e h.m.reached.known h.m.reached.world x.thread (all_placed AtPlain (together h.spawns.atoms) ++ h.spawns.rest)
-            (fits_entailed g done h.m.reached.known h.m.reached.world x.thread h.m.reached.pieces (all_placed AtPlain (together h.spawns.atoms) ++ h.spawns.rest) h.m.reached.fits h.spawns.gives) in
+        (fits_entailed g done h.m.reached.known h.m.reached.world x.thread h.m.reached.pieces (all_placed AtPlain (together h.spawns.atoms) ++ h.spawns.rest) h.m.reached.fits h.spawns.gives) in
         fork_stands l p g last done e x cs accepted ex comes is s h
         (spawn_all l.asks g (e ∷ done) h.m.reached.known x.thread h.spawns.rest h.spawns.atoms (first_of cs) (length h.calls) h.m.reached.world
         (starts_long l h.spawns.owed h.calls h.spawns.atoms h.spawns.starts).1
         (quiet_keeps l.asks g done [] h.m.reached.known h.m.reached.world e x h.m.reached.ground comes (ap access_by is) (ap read_by is) (ap written_by is)) own
         (λ u i.
-          let c : In u cs = subst (λ (us : List ℕ). In u us) (sym h.numbers) i in
-          ((λ q. not_own_child g done e x cs comes is (subst (λ (v : ℕ). In v cs) (sym q) c)), fork_tells g done e x cs u comes is c)))
+        let c : In u cs = subst (λ (us : List ℕ). In u us) (sym h.numbers) i in
+        ((λ q. not_own_child g done e x cs comes is (subst (λ (v : ℕ). In v cs) (sym q) c)), fork_tells g done e x cs u comes is c)))
+
     with_mover : Mover l p g last done e x s → AllStand l p g last (e ∷ done)
     with_mover m =
         let asked = subst (λ (y : Label). IsAsked (need_of p m.reached.config) y) is (labels_are_asked p m.reached.config (reply_of x.label) x.label m.reached.next m.reached.shows) in
         let leads = subst (λ (y : Label). Leads (children_of m.reached.config) y m.reached.next) is (leads_on l p g last done e x s m) in
         let answers = subst (λ (y : Label). Answers g (need_of p m.reached.config) y) is m.reached.answers in
         let allows = subst (λ (y : Label). Allows l (s.owed x.thread) (need_of p m.reached.config) y (Good l p (s.owed x.thread) m.reached.moves m.reached.next) (map s.owed (children_of m.reached.config)) m.reached.pieces) is
-            (allowed l p g last done e x s m) in
+        (allowed l p g last done e x s m) in
         with_forks (record {
           m = m;
           calls = asked.0;

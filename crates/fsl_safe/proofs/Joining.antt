@@ -103,10 +103,11 @@ gather l g done k w owed t xs (r ∷ rs) up x f payers =
           (front_comes g done k more.world v.world r.thread t p.atoms (all_placed AtPlain (together more.atoms) ++ xs) p.apart v.gift (given_right g done k r.thread t p.atoms p.tells own.right) more.fits);
       others = λ u a n m. keeps_then k k k w more.world v.world (holder_of u a) (more.others u a n (λ i. m (inr i))) (others_keep k more.world v.world r.thread t (demand p.atoms) u a (λ q. m (inl q)) v.gift);
     }
+
     from : Payer l g done k w owed t r → Gathered l g done k w owed t rs xs → Gathered l g done k w owed t (r ∷ rs) xs
     from p more =
         let own = fits_more g done k w more.world r.thread (all_placed AtPlain p.atoms)
-            (λ a q. (more.others r.thread a p.apart (λ i. absurd (let b = below_each r.thread (map thread_of rs) up.0 r.thread i in omega arith))).grows q) p.fits in
+        (λ a q. (more.others r.thread a p.apart (λ i. absurd (let b = below_each r.thread (map thread_of rs) up.0 r.thread i in omega arith))).grows q) p.fits in
         last p more own (give l.asks g done k more.world r.thread t p.atoms more.ground (λ q. let b = own.enough AtPlain q in let c = plain_demand AtPlain p.atoms q in omega arith) p.tells)
 
 -- ---- the Join
@@ -143,31 +144,40 @@ join_step l p g last done e x rs acyclic ex comes is s = with_mover (mover l p g
         let n = joins_wait p m.reached.config (reply_of x.label) rs m.reached.next shown in
         let answers = subst (λ (y : Label). Answers g (need_of p m.reached.config) y) is m.reached.answers in
         subst (λ (q : Need). Answers g q (label.Join rs)) n answers
+
     child : (m : Mover l p g last done e x s) → (u : ℕ) → In u (map thread_of rs) → IsChild g done x.thread u
     child m u i = m.goes.children u (subst (λ (us : List ℕ). In u us) (waited m ∙ m.reached.waits) i)
+
     awaits : (j : ℕ) (r : Ended) → slice_get rs j ≡ Some r → Awaits g e r.thread r.value
     awaits j r h = record { event = x; is = comes.is; results = rs; joins = is; entry = j; ended = r; among = h; thread = refl; value = refl }
+
     ends_in_done : (j : ℕ) (r : Ended) → slice_get rs j ≡ Some r → (d : ℕ) × In d done × Ends g d r.thread
     ends_in_done j r h =
-        let n = joined_ended p g last ex e r.thread r.value (awaits j r h) in
-        (n.0, comes.before n.0 (by_sb (join_edge (record {
-          last = n.1.event;
-          join = x;
-          value = r.value;
-          results = rs;
-          is_last = n.1.is;
-          is_join = comes.is;
-          ends = n.1.ends;
-          joins = is;
-          child = subst (λ (v : ℕ). In v (map thread_of rs)) (sym n.1.thread) (awaited rs j r h);
-        }))), record { event = n.1.event; is = n.1.is; thread = n.1.thread; value = r.value; ends = n.1.ends })
+        let n = joined_ended p g last ex e r.thread r.value (awaits j r h) in (
+          n.0,
+          comes.before n.0 (by_sb (join_edge (record {
+            last = n.1.event;
+            join = x;
+            value = r.value;
+            results = rs;
+            is_last = n.1.is;
+            is_join = comes.is;
+            ends = n.1.ends;
+            joins = is;
+            child = subst (λ (v : ℕ). In v (map thread_of rs)) (sym n.1.thread) (awaited rs j r h);
+          }))),
+          record { event = n.1.event; is = n.1.is; thread = n.1.thread; value = r.value; ends = n.1.ends },
+        )
+
     payer : (m : Mover l p g last done e x s) → (j : ℕ) (r : Ended) → slice_get rs j ≡ Some r → Payer l g (e ∷ done) m.reached.known m.reached.world s.owed x.thread r
     payer m j r h = by (s.thread r.thread (inr (c.fork, c.past, c.starts)) c.unawaited)
       where
         c : IsChild g done x.thread r.thread
         c = child m r.thread (awaited rs j r h)
+
         apart : r.thread ≡ x.thread → ⊥
         apart q = not_of_itself g done x.thread acyclic (subst (λ (v : ℕ). IsChild g done x.thread v) q c)
+
         by : Goes l p g done s.known s.world s.owed r.thread (last r.thread) ⊎ HasEnded l g done s.known s.world s.owed r.thread (last r.thread) → Payer l g (e ∷ done) m.reached.known m.reached.world s.owed x.thread r
         by (inl goes) = let d = ends_in_done j r h in absurd (goes.unended d.0 d.1 d.2)
         by (inr ended) =
@@ -180,6 +190,7 @@ join_step l p g last done e x rs acyclic ex comes is s = with_mover (mover l p g
               tells = await_tells p g last ex done e x r.thread r.value comes (awaits j r h);
               apart = apart;
             }
+
     stand : (m : Mover l p g last done e x s) → (h : Gathered l g (e ∷ done) m.reached.known m.reached.world s.owed x.thread rs m.reached.pieces)
         → Good l p (s.owed x.thread) m.reached.moves m.reached.next [] (all_placed AtPlain (together h.atoms) ++ m.reached.pieces) → children_of m.reached.next ≡ [] → AllStand l p g last (e ∷ done)
     stand m h good none = record {
@@ -220,12 +231,13 @@ join_step l p g last done e x rs acyclic ex comes is s = with_mover (mover l p g
             let q : label.Join w.results ≡ label.Join rs = sym w.joins ∙ ap (λ (y : Event). y.label) same ∙ is in
             let results : w.results ≡ rs = cc in
             subst (λ (us : List Ended). In v (map thread_of us)) results (subst (λ (o : ℕ). In o (map thread_of w.results)) w.thread (awaited w.results w.entry w.ended w.among))
+
     with_mover : Mover l p g last done e x s → AllStand l p g last (e ∷ done)
     with_mover m =
         let leads = subst (λ (y : Label). Leads (children_of m.reached.config) y m.reached.next) is (leads_on l p g last done e x s m) in
         let allows = subst (λ (y : Label). Allows l (s.owed x.thread) (need_of p m.reached.config) y (Good l p (s.owed x.thread) m.reached.moves m.reached.next) (map s.owed (children_of m.reached.config)) m.reached.pieces) is
-            (allowed l p g last done e x s m) in
+        (allowed l p g last done e x s m) in
         let h = gather l g (e ∷ done) m.reached.known m.reached.world s.owed x.thread m.reached.pieces rs (subst (λ (us : List ℕ). IsAscending us) (sym (waited m)) (children_up m.reached.config))
-            (quiet_keeps l.asks g done [] m.reached.known m.reached.world e x m.reached.ground comes (ap access_by is) (ap read_by is) (ap written_by is))
-            (fits_later g done e m.reached.known m.reached.world x.thread m.reached.pieces m.reached.fits) (payer m) in
+        (quiet_keeps l.asks g done [] m.reached.known m.reached.world e x m.reached.ground comes (ap access_by is) (ap read_by is) (ap written_by is))
+        (fits_later g done e m.reached.known m.reached.world x.thread m.reached.pieces m.reached.fits) (payer m) in
         stand m h (allows h.atoms (subst (λ (us : List ℕ). EachPays l (map s.owed us) rs h.atoms) (waited m) h.pays)) leads

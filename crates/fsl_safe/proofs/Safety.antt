@@ -94,8 +94,10 @@ first_stand l p g last accepted main ex = record {
   where
     call : Started
     call = record { proc = ex.main.0.proc; args = ex.main.0.args }
+
     none : children_of (start_of p ex.main.0.proc ex.main.0.args) ≡ []
     none = start_children (entered (slice_get p.procs ex.main.0.proc) ex.main.0.args None)
+
     first : Goes l p g [] nothing_known no_world (λ t. main.owed) 0 (last 0)
     first = record {
       config = start_of p ex.main.0.proc ex.main.0.args;
@@ -120,7 +122,7 @@ to_the_end l p g last accepted ex consistent acyclic (e ∷ rest) done there clo
     let x = each_number_is_one g e (there e (inl refl)) in
     let comes = next_comes g done rest e x.0 closed forward x.1 in
     let more = to_the_end l p g last accepted ex consistent acyclic rest (e ∷ done) (λ d i. there d (inr i)) comes.1 forward.2
-        (step_by l p g last done e x.0 x.0.label refl accepted ex consistent acyclic comes.0 s) in
+    (step_by l p g last done e x.0 x.0.label refl accepted ex consistent acyclic comes.0 s) in
     (more.0, more.1, (λ d i. more.2 d (inr i)), (λ d i. elim i [ inl q ↦ more.2 d (inl q) | inr j ↦ more.3 d j ]))
 
 -- ---- safety
@@ -135,6 +137,7 @@ none_failed l p g last done ex s all t there unawaited bad = by (s.thread t begu
       | inl z ↦ inl z
       | inr n ↦ let f = ex.forked t (omega arith) there in inr (f.0, all f.0 (is_event g f.0 f.1.event f.1.is), f.1)
     ]
+
     by : Goes l p g done s.known s.world s.owed t (last t) ⊎ HasEnded l g done s.known s.world s.owed t (last t) → ⊥
     by (inr h) = absurd (let q : returned h.value ≡ failed = sym h.at ∙ bad in cc)
     by (inl h) = never_fails l p g done t (s.owed t) s.owed (last t) h.config h.moves h.events h.runs (none h.events h.ahead) s.known s.world h.pieces s.ground h.fits h.good bad

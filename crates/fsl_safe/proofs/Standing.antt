@@ -78,32 +78,40 @@ event_begun p g last done e x ex is before = elim (cases_eq x.thread 0) [
   | inl z ↦ inl z
   | inr n ↦
       let f = ex.forked x.thread (omega arith) (ex.known e x is) in
-      inr (f.0, before f.0 (by_sb (fork_edge (record {
-        fork = f.1.event;
-        event = x;
-        children = f.1.children;
-        is_fork = f.1.is;
-        is_event = is;
-        forks = f.1.forks;
-        child = f.1.child;
-      }))), f.1)
+      inr (
+        f.0,
+        before f.0 (by_sb (fork_edge (record {
+          fork = f.1.event;
+          event = x;
+          children = f.1.children;
+          is_fork = f.1.is;
+          is_event = is;
+          forks = f.1.forks;
+          child = f.1.child;
+        }))),
+        f.1,
+      )
 ]
 
 -- where somebody has waited for a thread, its last event is done
 pub awaited_done : (p : Program) (g : Graph) (last : ℕ → Config) (done : List ℕ) (t : ℕ) → IsExecution p g last → IsClosed (Edge g) done → IsAwaited g done t → (d : ℕ) × (v : ℤ) × IsEndOf g t d v × In d done
 awaited_done p g last done t ex closed (j, v, past, w) =
-    let n = joined_ended p g last ex j t v w in
-    (n.0, v, n.1, closed n.0 j (by_sb (join_edge (record {
-      last = n.1.event;
-      join = w.event;
-      value = v;
-      results = w.results;
-      is_last = n.1.is;
-      is_join = w.is;
-      ends = n.1.ends;
-      joins = w.joins;
-      child = subst (λ (s : ℕ). In s (map thread_of w.results)) (w.thread ∙ sym n.1.thread) (awaited w.results w.entry w.ended w.among);
-    }))) past)
+    let n = joined_ended p g last ex j t v w in (
+      n.0,
+      v,
+      n.1,
+      closed n.0 j (by_sb (join_edge (record {
+        last = n.1.event;
+        join = w.event;
+        value = v;
+        results = w.results;
+        is_last = n.1.is;
+        is_join = w.is;
+        ends = n.1.ends;
+        joins = w.joins;
+        child = subst (λ (s : ℕ). In s (map thread_of w.results)) (w.thread ∙ sym n.1.thread) (awaited w.results w.entry w.ended w.among);
+      }))) past,
+    )
 
 -- a thread whose event comes next is none that somebody has waited for
 pub next_unawaited : NextUnawaited

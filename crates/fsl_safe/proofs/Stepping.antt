@@ -54,6 +54,7 @@ mover l p g last done e x ex comes s =
       ahead = subst (λ (es : List ℕ). Ahead g done x.thread es) r.1 h.ahead;
       reached = advance l p g done x.thread e x (s.owed x.thread) s.owed r.0 (last x.thread) h.config h.moves h.events h.runs r.1 comes.is s.known s.world h.pieces s.ground h.fits h.good;
     }
+
     by : Goes l p g done s.known s.world s.owed x.thread (last x.thread) ⊎ HasEnded l g done s.known s.world s.owed x.thread (last x.thread) → Mover l p g last done e x s
     by (inl h) = from h (first_ahead g done e x h.events comes h.ahead)
     by (inr h) = absurd (comes.fresh (h.over e x comes.is refl))
@@ -106,6 +107,7 @@ own_step l p g last done e x ex consistent comes own s = with_mover (mover l p g
   where
     no_fork : (cs : List ℕ) → x.label ≡ label.Fork cs → ⊥
     no_fork cs q = own_no_fork x.label cs own q
+
     stand : (m : Mover l p g last done e x s) → Acted l.asks g (e ∷ done) m.reached.known m.reached.world x.thread (Good l p (s.owed x.thread) m.reached.moves m.reached.next (map s.owed (children_of m.reached.config)))
         → AllStand l p g last (e ∷ done)
     stand m a = record {
@@ -127,6 +129,7 @@ own_step l p g last done e x ex consistent comes own s = with_mover (mover l p g
       where
         leads : (children_of m.reached.config ≡ []) × (children_of m.reached.next ≡ [])
         leads = own_leads x.label (children_of m.reached.config) m.reached.next own (leads_on l p g last done e x s m)
+
         own_goes : Goes l p g (e ∷ done) a.known a.world s.owed x.thread (last x.thread)
         own_goes = record {
           config = m.reached.next;
@@ -143,6 +146,7 @@ own_step l p g last done e x ex consistent comes own s = with_mover (mover l p g
             | inr o ↦ m.goes.unended d o c
           ];
         }
+
     with_mover : Mover l p g last done e x s → AllStand l p g last (e ∷ done)
     with_mover m = stand m (own_acts l g done e x m.reached.known m.reached.world (s.owed x.thread) (need_of p m.reached.config) (Good l p (s.owed x.thread) m.reached.moves m.reached.next)
         (map s.owed (children_of m.reached.config)) m.reached.pieces x.label consistent ex.distinct ex.positive m.reached.ground comes refl own m.reached.fits (allowed l p g last done e x s m))
@@ -163,6 +167,7 @@ end_step l p g last done e x v ex comes is s = with_mover (mover l p g last done
   where
     no_fork : (cs : List ℕ) → x.label ≡ label.Fork cs → ⊥
     no_fork cs q = absurd (let y : label.End v ≡ label.Fork cs = sym is ∙ q in cc)
+
     stand : (m : Mover l p g last done e x s) → Pays l (s.owed x.thread) v m.reached.pieces → (m.reached.next ≡ returned v) → AllStand l p g last (e ∷ done)
     stand m pays back = record {
       known = m.reached.known;
@@ -183,6 +188,7 @@ end_step l p g last done e x v ex comes is s = with_mover (mover l p g last done
       where
         rests : (m.rest ≡ []) × (last x.thread ≡ returned v)
         rests = returned_rests p g m.reached.next (last x.thread) m.reached.moves m.rest v back m.reached.runs
+
         over : HasEnded l g (e ∷ done) m.reached.known m.reached.world s.owed x.thread (last x.thread)
         over = record {
           value = v;
@@ -203,6 +209,7 @@ end_step l p g last done e x v ex comes is s = with_mover (mover l p g last done
                 by : In d done ⊎ (In d done → ⊥) → In d done
                 by (inl i) = i
                 by (inr n) = elim (m.ahead.to d y q r n) [ inl z ↦ absurd (f z) | inr i ↦ elim (subst (λ (es : List ℕ). In d es) rests.0 i) [ ] ]
+
     with_mover : Mover l p g last done e x s → AllStand l p g last (e ∷ done)
     with_mover m =
         let back = subst (λ (y : Label). Leads (children_of m.reached.config) y m.reached.next) is (leads_on l p g last done e x s m) in
