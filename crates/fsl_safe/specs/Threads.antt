@@ -3,14 +3,14 @@
 use Rattle.std.specs.Prelude.{ℕ, ◌≡◌, ◌⊎◌, List, [], ◌∷◌, map, ℤ, Some}
 use Rattle.fsl_core.specs.declared.label.Label.TheVariants as label
 use Rattle.fsl_core.specs.declared.need.Started.{Started}
-use Rattle.fsl_core.specs.Programs.{Program}
+use Rattle.fsl_core.specs.Programs.{Program, main_of}
 use Rattle.fsl_core.specs.Moves.{Config, returned, start_of}
 use Rattle.fsl_graph.specs.declared.event.Event.{Event}
 use Rattle.fsl_graph.specs.declared.graph.Graph.{Graph}
 use Rattle.fsl_graph.specs.Events.{Is}
 use Rattle.fsl_graph.specs.Sequenced.{In, IsAcyclic}
 use Rattle.fsl_graph.specs.Consistent.{IsConsistent}
-use Rattle.fsl_graph.specs.Execution.{Runs, Starts, Awaits, IsExecution, main_of}
+use Rattle.fsl_graph.specs.Execution.{Runs, Starts, Awaits, IsExecution}
 use Rattle.fsl_graph.specs.Keeping.{children_of}
 use Rattle.fsl_graph.specs.Safe.{IsSafe}
 use Rattle.fsl_graph.specs.Threads.{Ahead}
