@@ -1,0 +1,6 @@
+//! What a thread has, as the rules speak of it: its pieces read as a heap, taken apart and put together, and what it is
+//! that they satisfy an assertion.
+#![tactic(auto)]
+
+/// Nothing so far.
+pub fn nothing() {}

@@ -1,0 +1,2 @@
+-- A step of the walk.
+use Rattle.fsl_walk.specs.Walks.{Walks, ParMoves}
