@@ -1,0 +1,21 @@
+-- What the verdict of the rules promises.
+use Rattle.std.specs.Prelude.{◌≡◌, ℕ, true}
+use Rattle.fsl_core.specs.declared.verdict.Verdict.TheVariants.{Accepted}
+use Rattle.fsl_core.specs.Programs.{Program}
+use Rattle.fsl_core.specs.Moves.{Config}
+use Rattle.fsl_core.specs.WellFormed.{is_well_formed}
+use Rattle.fsl_core.specs.logic.Verdicts.{verdict_of}
+use Rattle.fsl_graph.specs.declared.graph.Graph.{Graph}
+use Rattle.fsl_graph.specs.Sequenced.{IsAcyclic}
+use Rattle.fsl_graph.specs.Consistent.{IsConsistent}
+use Rattle.fsl_graph.specs.Execution.{IsExecution}
+use Rattle.fsl_graph.specs.Safe.{IsSafe}
+use Rattle.fsl_walk.specs.Covered.{covers_program}
+
+-- nothing unsafe is done in any execution
+abbrev pub IsSafeAlways : Program → Type 0
+IsSafeAlways p = (g : Graph) (last : ℕ → Config) → IsExecution p g last → IsConsistent g → IsAcyclic g → IsSafe g last
+
+-- a program that the rules accept is safe, where it has no atomic locations and no banks
+abbrev pub CellsAreSafe : Type 0
+CellsAreSafe = (p : Program) (n : ℕ) → is_well_formed p ≡ true → covers_program p ≡ true → verdict_of p ≡ Accepted n → IsSafeAlways p
