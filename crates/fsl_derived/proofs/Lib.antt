@@ -1,2 +1,5 @@
 pub mod Follows
 pub mod Lists
+pub mod Assumed
+pub mod Passing
+pub mod Cutting
