@@ -27,7 +27,7 @@ derived_more (failed at kind ∷ xs) ys h k = absurd h
 
 -- ---- branches
 
-each_goes : {X : Type 0} (at : Span) (bs : Branches X) (after : X → Ends) (x : X) (s : State) → Among (goes x s) bs → AllDerived (each at bs after) → AllDerived (after x s)
+pub each_goes : {X : Type 0} (at : Span) (bs : Branches X) (after : X → Ends) (x : X) (s : State) → Among (goes x s) bs → AllDerived (each at bs after) → AllDerived (after x s)
 each_goes at [] after x s i h = absurd i
 each_goes {X = X} at (goes y t ∷ bs) after x s (inl e) h =
     let p : y ≡ x = cc in
