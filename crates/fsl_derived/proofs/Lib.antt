@@ -5,3 +5,8 @@ pub mod Passing
 pub mod Cutting
 pub mod Moving
 pub mod Par
+pub mod Ending
+pub mod Starting
+pub mod Deriving
+pub mod Mains
+pub mod Safety

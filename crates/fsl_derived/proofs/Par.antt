@@ -97,16 +97,16 @@ line_parts : (h l n u x : ℕ) → h ≡ l + n → h + u ≤ x → (l + u) + n �
 line_parts h l n u x e i = omega arith
 
 fork : (u : Activation) (m : ℕ) (calls : List Called) (scope : Scope) (stmts : List Stmt) (after : Ends) (Q : List ℤ → Type 0) (base : List Piece) (under : Heap) (at : Span) → is_well_formed u.program ≡ true
-    → list_all (λ call. passes u.program.procs scope call.proc call.args) calls ≡ true → list_all (child_fits u.program) calls ≡ true → Runs u m after stmts scope Q base under
+    → list_all (λ call. passes u.program.procs scope call.proc call.args) calls ≡ true → list_all (child_fits u.program) calls ≡ true → scope.in_ensures ≡ false → Runs u m after stmts scope Q base under
     → (xs : List Piece) (slots env : List ℤ) (v : Numbers) (s : State) → IsPossible xs → Kept base under xs → Stance xs under slots v s → Matches scope env slots → Q slots
     → AllDerived (each at (par (setting_of asrt_of u.program) (map (call_of expr_of) calls) s) (λ x. after)) → (o : Option (List Start)) → started_of u.program calls env ≡ o
     → IsGoodMove u m (forking o (λ first. joining first (length calls) (record { stmts = stmts; env = env; target = u.target }) u.below)) xs
-fork u m calls scope stmts after Q base under at well passed fits runs xs slots env v s possible kept stance matches q derived None is = halts u m xs
-fork u m calls scope stmts after Q base under at well passed fits runs xs slots env v s possible kept stance matches q derived (Some ds) is =
+fork u m calls scope stmts after Q base under at well passed fits outside runs xs slots env v s possible kept stance matches q derived None is = halts u m xs
+fork u m calls scope stmts after Q base under at well passed fits outside runs xs slots env v s possible kept stance matches q derived (Some ds) is =
     let setting = setting_of asrt_of u.program in
     let reads = map (call_of expr_of) calls in
     let ks = started u.program slots calls in
-    let each_is = all_started u.program scope env slots calls ds matches.sees passed fits is in
+    let each_is = all_started u.program scope env slots calls ds well outside matches.sees passed fits is in
     let one = each_goes at (here s) (λ e t. each at (followed (with_args setting reads e t) (λ rs r. followed (start_each rs r) join_each)) (λ x. after)) s.env s (inl refl)
     (each_followed at (here s) (λ e t. followed (with_args setting reads e t) (λ rs r. followed (start_each rs r) join_each)) (λ x. after) derived) in
     let told = each_tells at (λ rs t. each at (followed (start_each rs t) join_each) (λ x. after)) (args_tell u.program calls stance.fits stance.fits.env)
@@ -131,12 +131,12 @@ fork u m calls scope stmts after Q base under at well passed fits runs xs slots 
       atoms = cut.atoms;
       rest = cut.rest;
       gives = cut.gives;
-      starts = each_starts u.program ds ks land.is.needs cut.atoms well each_is cut.satisfied;
+      starts = each_starts u.program ds ks land.is.needs cut.atoms each_is cut.satisfied;
       next = joining_good (logic_of u.program) u.program u.debt m first (length calls) (record { stmts = stmts; env = env; target = u.target }) u.below (all_owed ks land.is.needs) cut.rest
           (λ k less rs yss pays. good_given (logic_of u.program) u.program u.debt k (config_of u stmts env) [] (all_placed AtPlain (together yss) ++ cut.rest) (λ e. absurd (cc))
           (join u m ks land.is.needs scope stmts Q base under at after xs cut.rest slots env rs yss runs kept matches q forked pays k less));
     })
 
 pub par_moves : (u : Activation) → is_well_formed u.program ≡ true → (m : ℕ) → ParMoves u m
-par_moves u well m calls stmt scope rest after Q base under at passed no_ensures fits runs xs slots env v s possible kept stance matches q derived =
-    fork u m calls scope rest after Q base under at well passed fits runs xs slots env v s possible kept stance matches q derived (started_of u.program calls env) refl
+par_moves u well m calls stmt scope rest after Q base under at passed outside fits runs xs slots env v s possible kept stance matches q derived =
+    fork u m calls scope rest after Q base under at well passed fits outside runs xs slots env v s possible kept stance matches q derived (started_of u.program calls env) refl

@@ -1,0 +1,135 @@
+-- The start of a thread: it has what its contract requires, and runs the body of its procedure.
+use Rattle.std.proofs.Common.{◌≡◌, ℕ, zero, suc, ◌+◌, ◌-◌, ◌≤◌, nat_le, Bool, true, false, ◌&&◌, List, [], ◌∷◌, ◌++◌, length, map, replicate, Option, Some, None, ℤ, pos, slice_get, refl, sym, ap, ◌∙◌, subst, arith}
+use Rattle.std.specs.List.{list_all}
+use Rattle.std.proofs.lemmas.Bool.{and_parts}
+use Rattle.std.proofs.lemmas.List.{append-nil}
+use Rattle.fsl_core.specs.declared.declaration.Proc.{Proc}
+use Rattle.fsl_core.specs.declared.need.Started.{Started as Start}
+use Rattle.fsl_core.specs.declared.mode.Rung.TheVariants.{Plain}
+use Rattle.fsl_core.specs.declared.scope.Scope.{Scope}
+use Rattle.fsl_core.specs.Programs.{Program}
+use Rattle.fsl_core.specs.Moves.{Config, started_at, entered, start_of}
+use Rattle.fsl_core.specs.Scopes.{parameters_of, behind_requires, in_body, in_ensures, has_room, asrt_scoped, block_scoped, proc_is_scoped}
+use Rattle.fsl_core.specs.WellFormed.{asrt_fits, stmt_fits, proc_fits}
+use Rattle.fsl_core.specs.logic.States.{State}
+use Rattle.fsl_core.specs.logic.Assertions.{asrt_of}
+use Rattle.fsl_core.specs.logic.Locations.{contract_of}
+use Rattle.fsl_core.specs.logic.Calls.{enter}
+use Rattle.fsl_core.specs.logic.Paths.{each, block, stmt_of, nowhere, closing, start}
+use Rattle.fsl_core.specs.declared.act.Stmt.{Stmt}
+use Rattle.fsl_lin.specs.Numbers.{Numbers}
+use Rattle.fsl_meaning.specs.Means.{padded_numbers}
+use Rattle.fsl_meaning.specs.Heaps.{Key, Heap, nothing}
+use Rattle.fsl_meaning.specs.States.{All, Fits}
+use Rattle.fsl_meaning.proofs.Terms.{all_none}
+use Rattle.fsl_asserted.specs.Needs.{Need}
+use Rattle.fsl_kept.proofs.Calls.{enter_fits}
+use Rattle.fsl_own.specs.Atoms.{Atom}
+use Rattle.fsl_good.specs.Pieces.{AtPlain, Piece, all_placed, IsPossible}
+use Rattle.fsl_good.specs.Good.{Good}
+use Rattle.fsl_held.specs.Heaps.{heap_of, truth_of, ground_of}
+use Rattle.fsl_held.specs.Asked.{Debt, StartsWith, logic_of}
+use Rattle.fsl_walk.specs.Covered.{covers, covers_proc}
+use Rattle.fsl_walk.specs.Stances.{Activation, config_of, reading, IsGood, Stance, Matches}
+use Rattle.fsl_walk.specs.Walks.{IsDerived, Walks}
+use Rattle.fsl_derived.proofs.Assumed.{heap_is_bounded, binders_are_free, bodies_are_declared, no_ensures}
+use Rattle.fsl_derived.proofs.Follows.{each_lands}
+use Rattle.fsl_derived.proofs.Lists.{kept_self}
+use Rattle.fsl_derived.proofs.Passing.{all_procs, well_proc}
+use Rattle.fsl_derived.proofs.Moving.{good_given}
+use Rattle.fsl_derived.proofs.Ending.{AtStart, body_closed, outermost, end_returns, closing_runs}
+
+-- ---- numbers that are padded
+
+append_long : (xs ys : List ℤ) → length (xs ++ ys) ≡ length xs + length ys
+append_long [] ys = refl
+append_long (x ∷ xs) ys = ap suc (append_long xs ys)
+
+replicate_long : (n : ℕ) → length (replicate n (pos 0)) ≡ n
+replicate_long zero = refl
+replicate_long (suc n) = ap suc (replicate_long n)
+
+line_padded : (k l r n : ℕ) → n ≡ l + r → r ≡ k - l → l ≤ k → n ≡ k
+line_padded k l r n e f i = omega arith
+
+padded_long : (k : ℕ) (xs : List ℤ) → length xs ≤ k → length (padded_numbers k xs) ≡ k
+padded_long k xs room =
+    line_padded k (length xs) (length (replicate (k - length xs) (pos 0))) (length (padded_numbers k xs)) (append_long xs (replicate (k - length xs) (pos 0))) (replicate_long (k - length xs)) room
+
+-- ---- what is so of a procedure that is scoped
+
+record IsScoped (procs : List Proc) (q : Proc) : Type 0 where
+  room : q.params ≤ q.slots
+  requires : (asrt_scoped q.pre).fits (parameters_of q) ≡ true
+  body : (block_scoped procs q.body).fits (in_body (behind_requires q)) ≡ true
+
+is_scoped : (procs : List Proc) (q : Proc) → proc_is_scoped procs q ≡ true → IsScoped procs q
+is_scoped procs q h =
+    let pre = (asrt_scoped q.pre).fits (parameters_of q) in
+    let post = (asrt_scoped q.post).fits (in_ensures (behind_requires q)) in
+    let body = (block_scoped procs q.body).fits (in_body (behind_requires q)) in
+    let one = and_parts (has_room q) (pre && (post && body)) h in
+    let two = and_parts pre (post && body) one.1 in
+    let three = and_parts post body two.1 in
+    let room = and_parts (nat_le q.slots 256) (nat_le q.params q.slots && nat_le (length q.banks) q.slots) one.0 in
+    let params = and_parts (nat_le q.params q.slots) (nat_le (length q.banks) q.slots) room.1 in
+    record { room = omega (arith, params.0); requires = two.0; body = three.1 }
+
+body_fits : (p : Program) (q : Proc) → proc_fits p q ≡ true → list_all (stmt_fits p) q.body ≡ true
+body_fits p q h =
+    let one = and_parts (asrt_fits p.invs q.pre true) (asrt_fits p.invs q.post true && list_all (stmt_fits p) q.body) h in
+    (and_parts (asrt_fits p.invs q.post true) (list_all (stmt_fits p) q.body) one.1).1
+
+-- ---- the start
+
+one_numbers : Numbers
+one_numbers i = pos 1
+
+-- nothing is there yet
+start_fits : (xs : List Piece) → Fits [] (All (ground_of xs) nothing) (λ i. pos 1) start
+start_fits xs = record { one = refl; facts = record { all = λ w e. tt }; env = all_none; owns = record { each = tt } }
+
+line_none : (a : ℕ) → a + 0 ≤ a
+line_none a = omega arith
+
+abbrev pub AllWalk : Program → Type 1
+AllWalk p = (u : Activation) → u.program ≡ p → (m : ℕ) → Walks u m
+
+body_good : (p : Program) → IsDerived p → AllWalk p → (o : Debt) (call : Start) (ys : List Atom) (s : StartsWith p o call ys) (n : ℕ) → IsPossible (all_placed AtPlain ys)
+    → IsGood (outermost p o s.proc) n (config_of (outermost p o s.proc) s.proc.body (padded_numbers s.proc.slots call.args)) (all_placed AtPlain ys)
+body_good p derived walks o call ys s n possible =
+    let q = s.proc in
+    let u = outermost p o q in
+    let xs = all_placed AtPlain ys in
+    let env = padded_numbers q.slots call.args in
+    let well = well_proc p call.proc q derived.well s.is in
+    let scoped = is_scoped p.procs q well.1 in
+    let long : length s.need.env ≡ q.slots =
+    (binders_are_free (parameters_of q) q.pre (truth_of xs) Plain (padded_numbers q.slots s.numbers) s.need scoped.requires s.satisfies.asked.is).0
+    ∙ padded_long q.slots s.numbers (subst (λ (k : ℕ). k ≤ q.slots) (sym s.long) scoped.room) in
+    let land = each_lands nowhere (λ x t. block (map (stmt_of (reading u)) q.body) 0 t (closing (asrt_of q.post) q.last))
+    (enter_fits q s.numbers s.need (heap_of xs) s.long (start_fits xs) s.satisfies.asked.is s.satisfies.asked.known
+    (λ k. subst (λ (m : ℕ). m ≤ heap_of xs k) (line_same (s.need.heap k)) (s.satisfies.enough k)) (heap_is_bounded xs possible))
+    (derived.each call.proc q s.is) in
+    let returns = end_returns p o q s.need.env n xs nothing well.1 long s.owed in
+    subst (λ (stmts : List Stmt). IsGood u n (config_of u stmts env) xs) (append-nil q.body)
+    (walks u refl n q.body (in_body (behind_requires q)) (in_body (behind_requires q)) 0 [] (closing (asrt_of q.post) q.last) (AtStart q s.need.env) xs nothing
+    scoped.body (no_ensures q) (body_fits p q well.0) (all_procs covers_proc p.procs call.proc q derived.covered s.is)
+    (bodies_are_declared p.procs q) (λ slot seen. seen) (body_closed p.procs q (reading u) s.need.env well.1)
+    (closing_runs u n q.last (in_body (behind_requires q)) (AtStart q s.need.env) xs nothing returns) returns
+    xs s.need.env env land.numbers land.state (kept_self xs nothing)
+    (record { mine = heap_of xs; fits = land.is; parts = λ k. line_none (heap_of xs k) })
+    (record { long = padded_long q.slots call.args (subst (λ (k : ℕ). k ≤ q.slots) (sym s.given) scoped.room) ∙ sym long; sees = s.sees })
+    (record { long = refl; alike = λ slot shared. refl })
+    land.derived)
+  where
+    line_same : (a : ℕ) → a ≡ a + 0
+    line_same a = omega arith
+
+-- a thread that starts with what its contract requires is good, for any number of moves
+pub thread_good : (p : Program) → IsDerived p → AllWalk p → (o : Debt) (call : Start) (ys : List Atom) → StartsWith p o call ys → (n : ℕ)
+    → Good (logic_of p) p o n (start_of p call.proc call.args) [] (all_placed AtPlain ys)
+thread_good p derived walks o call ys s n =
+    subst (λ (c : Config). Good (logic_of p) p o n c [] (all_placed AtPlain ys)) (sym (ap (λ (q : Option Proc). started_at (entered q call.args None)) s.is))
+    (good_given (logic_of p) p o n (config_of (outermost p o s.proc) s.proc.body (padded_numbers s.proc.slots call.args)) [] (all_placed AtPlain ys) (λ e. absurd (cc))
+    (body_good p derived walks o call ys s n))
