@@ -1,8 +1,8 @@
 -- The start of a thread: it has what its contract requires, and runs the body of its procedure.
 use Rattle.std.proofs.Common.{◌≡◌, ℕ, zero, suc, ◌+◌, ◌-◌, ◌≤◌, nat_le, Bool, true, false, ◌&&◌, List, [], ◌∷◌, ◌++◌, length, map, replicate, Option, Some, None, ℤ, pos, slice_get, refl, sym, ap, ◌∙◌, subst, arith}
 use Rattle.std.specs.List.{list_all}
-use Rattle.std.proofs.lemmas.Bool.{and_parts}
-use Rattle.std.proofs.lemmas.List.{append-nil}
+use Rattle.std.proofs.lemmas.Bool.{and_parts, leb-true}
+use Rattle.std.proofs.lemmas.List.{append-nil, length-append, length-replicate}
 use Rattle.fsl_core.specs.declared.declaration.Proc.{Proc}
 use Rattle.fsl_core.specs.declared.need.Started.{Started as Start}
 use Rattle.fsl_core.specs.declared.mode.Rung.TheVariants.{Plain}
@@ -41,20 +41,12 @@ use Rattle.fsl_derived.proofs.Ending.{AtStart, body_closed, outermost, end_retur
 
 -- ---- numbers that are padded
 
-append_long : (xs ys : List ℤ) → length (xs ++ ys) ≡ length xs + length ys
-append_long [] ys = refl
-append_long (x ∷ xs) ys = ap suc (append_long xs ys)
-
-replicate_long : (n : ℕ) → length (replicate n (pos 0)) ≡ n
-replicate_long zero = refl
-replicate_long (suc n) = ap suc (replicate_long n)
-
 line_padded : (k l r n : ℕ) → n ≡ l + r → r ≡ k - l → l ≤ k → n ≡ k
 line_padded k l r n e f i = omega arith
 
 padded_long : (k : ℕ) (xs : List ℤ) → length xs ≤ k → length (padded_numbers k xs) ≡ k
 padded_long k xs room =
-    line_padded k (length xs) (length (replicate (k - length xs) (pos 0))) (length (padded_numbers k xs)) (append_long xs (replicate (k - length xs) (pos 0))) (replicate_long (k - length xs)) room
+    line_padded k (length xs) (length (replicate (k - length xs) (pos 0))) (length (padded_numbers k xs)) (length-append xs (replicate (k - length xs) (pos 0))) (length-replicate (k - length xs) (pos 0)) room
 
 -- ---- what is so of a procedure that is scoped
 
@@ -73,7 +65,7 @@ is_scoped procs q h =
     let three = and_parts post body two.1 in
     let room = and_parts (nat_le q.slots 256) (nat_le q.params q.slots && nat_le (length q.banks) q.slots) one.0 in
     let params = and_parts (nat_le q.params q.slots) (nat_le (length q.banks) q.slots) room.1 in
-    record { room = omega (arith, params.0); requires = two.0; body = three.1 }
+    record { room = leb-true q.params q.slots params.0; requires = two.0; body = three.1 }
 
 body_fits : (p : Program) (q : Proc) → proc_fits p q ≡ true → list_all (stmt_fits p) q.body ≡ true
 body_fits p q h =
@@ -81,9 +73,6 @@ body_fits p q h =
     (and_parts (asrt_fits p.invs q.post true) (list_all (stmt_fits p) q.body) one.1).1
 
 -- ---- the start
-
-one_numbers : Numbers
-one_numbers i = pos 1
 
 -- nothing is there yet
 start_fits : (xs : List Piece) → Fits [] (All (ground_of xs) nothing) (λ i. pos 1) start
