@@ -10,3 +10,4 @@ pub mod Starting
 pub mod Deriving
 pub mod Mains
 pub mod Safety
+pub mod Examples

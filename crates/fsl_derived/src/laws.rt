@@ -1,7 +1,13 @@
 //! What the verdict of the rules promises. Each call does nothing; its contract is the law.
 ghost use Rattle.fsl_derived.specs.Laws.{CellsAreSafe};
+ghost use Rattle.fsl_derived.specs.Examples.{ExamplesAreSafe};
 
-/// An accepted program over cells does nothing unsafe.
+/// An accepted program does nothing unsafe in any execution, where it has neither atomic locations nor banks.
 pub fn accepted_is_safe()
     ensures { CellsAreSafe }
+{}
+
+/// There are such programs: one that makes, stores and loads a cell, and one of two threads that do so side by side.
+pub fn examples_are_safe()
+    ensures { ExamplesAreSafe }
 {}
