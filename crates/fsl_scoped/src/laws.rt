@@ -1,0 +1,10 @@
+//! What holds in every scope. Each call does nothing; its contract is a family of laws.
+ghost use Rattle.fsl_scoped.specs.Values.{ValuesAreExact, ConditionsAreExact, ReadsAreExact, TestsAreExact};
+
+/// A run's values are the numbers of a path.
+pub fn values()
+    ensures values { ValuesAreExact }
+    ensures conditions { ConditionsAreExact }
+    ensures reads { ReadsAreExact }
+    ensures tests { TestsAreExact }
+{}
