@@ -5,3 +5,10 @@ pub mod Alike
 pub mod Asking
 pub mod Numbers
 pub mod Assertions
+pub mod Setting
+pub mod Statements
+pub mod Parameters
+pub mod Bodies
+pub mod Arguments
+pub mod Unsaid
+pub mod Ensures
