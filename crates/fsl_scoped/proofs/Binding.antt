@@ -1,5 +1,5 @@
 -- What is seen behind an assertion: what was seen before it, and its binders.
-use Rattle.std.proofs.Common.{◌≡◌, ◌⊎◌, inl, inr, ℕ, Bool, true, false, ◌&&◌, ◌||◌, List, [], ◌∷◌, map, ap, ◌∙◌, sym, subst, refl}
+use Rattle.std.proofs.Common.{◌≡◌, ◌⊎◌, inl, inr, ℕ, Bool, true, false, ◌&&◌, List, [], ◌∷◌, map, ap, ◌∙◌, sym, subst, refl}
 use Rattle.std.proofs.lemmas.Bool.{and_parts}
 use Rattle.fsl_core.specs.declared.assertion.Asrt.{Asrt}
 use Rattle.fsl_core.specs.declared.assertion.Asrt.TheOpen.{Asrt-F}
@@ -9,7 +9,7 @@ use Rattle.fsl_core.specs.declared.assertion.Pat.TheVariants as pat
 use Rattle.fsl_core.specs.declared.scope.Scope.{Scope}
 use Rattle.fsl_core.specs.declared.scope.Sight.{Sight}
 use Rattle.fsl_core.specs.declared.scope.Sight.TheVariants as sight
-use Rattle.fsl_core.specs.Scopes.{is_free, is_bank, sight_at, with_sight, reads, reads_all, tests, inst_reads, Scoped, still, all_fit, behind_all, in_turn, pat_fits, bound, asrt_step, asrt_scoped}
+use Rattle.fsl_core.specs.Scopes.{is_free, is_bank, sight_at, with_sight, reads, reads_all, tests, inst_reads, Scoped, still, all_fit, behind_all, pat_fits, bound, asrt_step, asrt_scoped}
 use Rattle.fsl_scoped.specs.Assertions.{is_shared}
 use Rattle.fsl_scoped.proofs.Lists.{set_cases}
 

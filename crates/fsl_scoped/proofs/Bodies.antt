@@ -1,9 +1,8 @@
 -- A body sets nothing of its contract, and starts with no variable of its own.
-use Rattle.std.proofs.Common.{◌≡◌, ◌⊎◌, inl, inr, ℕ, ◌==◌, Bool, true, false, List, [], ◌∷◌, map, ap, ◌∙◌, sym, subst, refl, eqb-true}
+use Rattle.std.proofs.Common.{◌≡◌, inl, inr, ℕ, ◌==◌, Bool, true, false, List, [], ◌∷◌, map, ap, ◌∙◌, sym, subst, refl, eqb-true}
 use Rattle.std.proofs.lemmas.Bool.{and_parts, or_cases}
 use Rattle.std.specs.List.{list_all, list_any}
 use Rattle.fsl_core.specs.declared.declaration.Proc.{Proc}
-use Rattle.fsl_core.specs.declared.scope.Scope.{Scope}
 use Rattle.fsl_core.specs.declared.scope.Sight.{Sight}
 use Rattle.fsl_core.specs.declared.scope.Sight.TheVariants as sight
 use Rattle.fsl_core.specs.Scopes.{is_settable, sight_at, kept, in_body, behind_requires, parameters_of}

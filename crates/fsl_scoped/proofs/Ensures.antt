@@ -1,17 +1,16 @@
 -- An `ensures` sees its contract's variables, and the result where it speaks of it.
-use Rattle.std.proofs.Common.{◌≡◌, ℕ, ◌<◌, ◌+◌, ◌++◌, true, false, List, [], ◌∷◌, length, Some, ℤ, pos, slice_get, is_some, ap, ◌∙◌, sym, subst, refl, arith, length-append}
+use Rattle.std.proofs.Common.{◌≡◌, ℕ, ◌<◌, ◌+◌, ◌++◌, true, false, List, [], ◌∷◌, length, ℤ, pos, slice_get, is_some, ap, ◌∙◌, sym, refl, arith, length-append}
 use Rattle.fsl_core.specs.declared.declaration.Proc.{Proc}
 use Rattle.fsl_core.specs.declared.mode.Rung.TheVariants.{Plain}
 use Rattle.fsl_core.specs.declared.scope.Scope.{Scope}
 use Rattle.fsl_core.specs.declared.scope.Sight.{Sight}
 use Rattle.fsl_core.specs.declared.scope.Sight.TheVariants as sight
-use Rattle.fsl_core.specs.Scopes.{is_free, sight_at, in_ensures, behind_requires, asrt_scoped, proc_is_scoped, parameters_of, with_first, with_banks, no_variables, nothing_declared, with_sight}
+use Rattle.fsl_core.specs.Scopes.{is_free, sight_at, in_ensures, behind_requires, asrt_scoped, parameters_of}
 use Rattle.fsl_core.specs.logic.Assertions.{asrt_of}
-use Rattle.fsl_asserted.specs.Needs.{asks}
 use Rattle.fsl_scoped.specs.Assertions.{is_shared, Shares}
 use Rattle.fsl_scoped.specs.Procedures.{EnsuresAreSeen, EnsuresNeedNoResult, EnsuresMindNoResult}
 use Rattle.fsl_scoped.proofs.Lists.{room_long, last_behind, append_alike, append_front}
-use Rattle.fsl_scoped.proofs.Binding.{Later, asrt_binds}
+use Rattle.fsl_scoped.proofs.Binding.{asrt_binds}
 use Rattle.fsl_scoped.proofs.Alike.{Alike}
 use Rattle.fsl_scoped.proofs.Asking.{asrt_seen}
 use Rattle.fsl_scoped.proofs.Parameters.{ProcFits, proc_fits, held_within, parameters_outside}
