@@ -1,0 +1,14 @@
+pub mod Exactly
+pub mod Lists
+pub mod Binding
+pub mod Alike
+pub mod Asking
+pub mod Numbers
+pub mod Assertions
+pub mod Setting
+pub mod Statements
+pub mod Parameters
+pub mod Bodies
+pub mod Arguments
+pub mod Unsaid
+pub mod Ensures
