@@ -50,7 +50,8 @@ use Rattle.fsl_held.specs.Parts.{TakesCell, ReadsCell, IsInFront}
 use Rattle.fsl_held.specs.Asked.{logic_of}
 use Rattle.fsl_walk.specs.Stances.{AllDerived, Activation, config_of, IsGood, IsGoodMove, Stance, Matches, Runs}
 use Rattle.fsl_walk.specs.Walks.{IsClosed}
-use Rattle.fsl_walk.proofs.Assumed.{cell_taken, cell_read, front_kept, reads_exact, tests_exact}
+use Rattle.fsl_scoped.proofs.Exactly.{reads_exact, tests_exact}
+use Rattle.fsl_walk.proofs.Assumed.{cell_taken, cell_read, front_kept}
 use Rattle.fsl_walk.proofs.Slots.{sees_same, closed_one}
 use Rattle.fsl_walk.proofs.Rounds.{kept_less, kept_then, frame_fits, bounded, left_within, right_within}
 use Rattle.fsl_walk.proofs.Steps.{Landed, each_lands, good_possible, quiet, good_local, good_halting, good_given, shows_so}

@@ -9,18 +9,12 @@ use Rattle.fsl_core.specs.declared.scope.Sight.TheVariants as sight
 use Rattle.fsl_core.specs.Scopes.{is_number, sight_at, with_sight}
 use Rattle.fsl_core.specs.logic.Paths.{Meaning, all_sets}
 use Rattle.fsl_kept.specs.Calls.{renewed}
+use Rattle.fsl_scoped.proofs.Lists.{get_other}
 use Rattle.fsl_walk.specs.Stances.{Matches}
 use Rattle.fsl_walk.specs.Walks.{SeesMore, IsClosed}
 use Rattle.fsl_walk.specs.Laws.{SeesAreSame}
 
 -- ---- lists in which an item is set
-
-pub get_other : {X : Type 0} (xs : List X) (i k : ℕ) (x : X) → (k ≡ i → ⊥) → slice_get (slice_set xs i x) k ≡ slice_get xs k
-get_other [] i k x h = refl
-get_other (y ∷ ys) zero zero x h = absurd (h refl)
-get_other (y ∷ ys) zero (suc k) x h = refl
-get_other (y ∷ ys) (suc i) zero x h = refl
-get_other (y ∷ ys) (suc i) (suc k) x h = get_other ys i k x (λ e. h (ap suc e))
 
 pub get_same : {X : Type 0} (xs : List X) (i : ℕ) (x : X) → i < length xs → slice_get (slice_set xs i x) i ≡ Some x
 get_same [] i x h = absurd (omega arith)

@@ -113,11 +113,6 @@ meaning_of r stmt =
     fold_out-Stmt (Span → Meaning) Meaning (act_step r) stmt_step stmt
     ∙ ap (λ f. f stmt.span) (fold_out-Act (Span → Meaning) Meaning (act_step r) stmt_step stmt.act)
 
-pub scoped_of : (procs : List Proc) (stmt : Stmt) → stmt_scoped procs stmt ≡ scopes.act_step procs (map-Act Act Stmt Scoped Scoped (act_scoped procs) (stmt_scoped procs) (out-Act stmt.act))
-scoped_of procs stmt =
-    fold_out-Stmt Scoped Scoped (scopes.act_step procs) scopes.stmt_step stmt
-    ∙ fold_out-Act Scoped Scoped (scopes.act_step procs) scopes.stmt_step stmt.act
-
 abbrev pub stmt_folded : Program → Stmt → Bool
 stmt_folded p = fold-Stmt Bool Bool (fitting.act_step p) (λ stmt. stmt.act)
 
