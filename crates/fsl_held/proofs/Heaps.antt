@@ -128,7 +128,7 @@ if_this false z e = absurd (cc)
 none_less : (n : ℕ) → n ≡ 0 → 1 ≤ n → ⊥
 none_less n e h = omega arith
 
-no_share : 1 ≤ 0 → ⊥
+pub no_share : 1 ≤ 0 → ⊥
 no_share h = omega arith
 
 pub speaks_out : (l : ℤ) (part : ℕ) → Speaks (Permission l part) (λ y. out_by y l part)

@@ -1,2 +1,4 @@
 pub mod Bounded
+pub mod Cells
+pub mod Fronts
 pub mod Heaps
