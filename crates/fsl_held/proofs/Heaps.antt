@@ -125,9 +125,6 @@ if_this : {X : Type 0} (b : Bool) (z : X) → b ≡ true → (if b then Some z e
 if_this true z e = refl
 if_this false z e = absurd (cc)
 
-none_less : (n : ℕ) → n ≡ 0 → 1 ≤ n → ⊥
-none_less n e h = omega arith
-
 pub no_share : 1 ≤ 0 → ⊥
 no_share h = omega arith
 
