@@ -1,5 +1,5 @@
 -- Nobody has more than there is: what is possible is bounded as a heap.
-use Rattle.std.proofs.Common.{◌≡◌, ℕ, ◌+◌, ◌≤◌, ◌^◌, List, Option, Some, None, ℤ, pos, negsuc, ◌≤ℤ◌, refl, arith}
+use Rattle.std.proofs.Common.{◌≡◌, ℕ, ◌+◌, ◌≤◌, List, Option, Some, None, ℤ, pos, negsuc, ◌≤ℤ◌, refl, arith}
 use Rattle.std.proofs.lemmas.Int.{ints}
 use Rattle.fsl_meaning.specs.Heaps.{Key as key}
 use Rattle.fsl_own.specs.Owning.{Resource as resource, limit}

@@ -1,5 +1,5 @@
 -- All of a cell taken out of a list, and its value read.
-use Rattle.std.proofs.Common.{◌≡◌, inl, inr, ℕ, ◌+◌, ◌≤◌, ◌^◌, Bool, true, false, List, [], ◌∷◌, Option, Some, None, ℤ, pos, negsuc, if◌then◌else◌, refl, ap, sym, subst, ◌∙◌, arith}
+use Rattle.std.proofs.Common.{◌≡◌, inl, inr, ℕ, ◌+◌, ◌≤◌, Bool, true, false, List, [], ◌∷◌, Option, Some, None, ℤ, pos, negsuc, if◌then◌else◌, refl, ap, sym, subst, ◌∙◌, arith}
 use Rattle.std.specs.Ordering.{int_eq}
 use Rattle.fsl_core.specs.declared.mode.Rung.{Rung}
 use Rattle.fsl_core.specs.declared.mode.Rung.TheVariants.{Plain, Up, Down, Msg}
@@ -9,7 +9,7 @@ use Rattle.fsl_meaning.proofs.Deciding.{equal, is_equal, not_equal}
 use Rattle.fsl_own.specs.Owning.{Resource, Resource as resource, only, full, Known}
 use Rattle.fsl_own.specs.Atoms.{Atom, Points, Init, Rel, Acq, RmwAcq, Tok, Auth, asked, Says}
 use Rattle.fsl_own.proofs.Totals.{same_resource, only_here, only_elsewhere}
-use Rattle.fsl_good.specs.Pieces.{Level, AtPlain, AtUp, AtDown, same_level, Piece, plain, asked_at, demand_at, RightPieces, Entails, IsPossible}
+use Rattle.fsl_good.specs.Pieces.{Level, AtPlain, AtUp, AtDown, same_level, Piece, plain, asked_at, demand_at, RightPieces, IsPossible}
 use Rattle.fsl_good.proofs.Pieces.{all_say}
 use Rattle.fsl_held.specs.Heaps.{heap_of, or_else, or_this, value_by, value_in, out_by, out_in, count_by, count_in, tokens_at, bank_in, truth_of, says, knows_in, Kept}
 use Rattle.fsl_held.specs.Laws.{CellIsTaken, CellIsRead}

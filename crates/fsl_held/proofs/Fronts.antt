@@ -1,14 +1,11 @@
 -- Pieces in front of others: together they have what both have, and each side says what it said of what it has.
-use Rattle.std.proofs.Common.{◌≡◌, ℕ, ◌+◌, ◌≤◌, List, [], ◌∷◌, ◌++◌, Option, Some, None, ℤ, pos, negsuc, refl, ap, sym, subst, ◌∙◌, arith}
-use Rattle.fsl_core.specs.declared.mode.Rung.{Rung}
-use Rattle.fsl_core.specs.declared.mode.Rung.TheVariants.{Plain, Up, Down, Msg}
+use Rattle.std.proofs.Common.{◌≡◌, ℕ, ◌+◌, ◌≤◌, List, [], ◌∷◌, ◌++◌, Option, Some, None, ℤ, pos, negsuc, refl, ap, sym, ◌∙◌, arith}
 use Rattle.fsl_meaning.specs.Heaps.{Key as key, Agrees}
 use Rattle.fsl_own.specs.Owning.{Resource, Resource as resource, Known}
 use Rattle.fsl_own.specs.Atoms.{Atom}
 use Rattle.fsl_good.specs.Pieces.{Level, AtPlain, AtUp, AtDown, Piece, demand_at, AllSay, IsPossible}
 use Rattle.fsl_good.proofs.Pieces.{demand_more}
 use Rattle.fsl_held.specs.Heaps.{heap_of, or_this, value_by, value_in, out_by, out_in, count_by, count_in, tokens_at, bank_in, truth_of, Kept}
-use Rattle.fsl_held.specs.Parts.{IsInFront}
 use Rattle.fsl_held.specs.Laws.{FrontIsKept}
 use Rattle.fsl_held.proofs.Heaps.{heap_more, knows_front, knows_behind, first, value_first, out_first, count_first, first_front, first_behind, Speaks, first_there, first_none, speaks_out, speaks_count, no_share, value_said}
 
@@ -105,7 +102,7 @@ bank_behind xs ys (pos b) p h =
     let t = first_there (resource.Bank b) (λ y. count_by y b) (speaks_count b) AtPlain ys h in
     let here : count_in ys b ≡ Some t.0 = count_first b ys ∙ t.1 in
     let same : count_in (xs ++ ys) b ≡ count_in ys b =
-        count_first b (xs ++ ys) ∙ once_behind (resource.Bank b) (λ y. count_by y b) (speaks_count b) xs ys (p.within (resource.Bank b)) h ∙ sym (count_first b ys) in
+    count_first b (xs ++ ys) ∙ once_behind (resource.Bank b) (λ y. count_by y b) (speaks_count b) xs ys (p.within (resource.Bank b)) h ∙ sym (count_first b ys) in
     ap pos (this_count (count_in (xs ++ ys) b) (count_in ys b) (tokens_at (xs ++ ys) (pos b)) (tokens_at ys (pos b)) t.0 here same)
 bank_behind xs ys (negsuc b) p h = absurd (no_share h)
 

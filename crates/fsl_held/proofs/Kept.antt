@@ -3,7 +3,6 @@ use Rattle.std.proofs.Common.{◌≡◌, ℕ, ◌+◌, ◌≤◌, Bool, true, fa
 use Rattle.std.specs.Ordering.{int_eq}
 use Rattle.fsl_core.specs.declared.assertion.Asrt.{Asrt}
 use Rattle.fsl_core.specs.declared.assertion.Asrt.TheOpen.{Asrt-F}
-use Rattle.fsl_core.specs.declared.assertion.Asrt.TheViews.{roll-Asrt}
 use Rattle.fsl_core.specs.declared.assertion.Asrt.TheFolds.{ind-Asrt, map-Asrt, fold-roll-Asrt}
 use Rattle.fsl_core.specs.declared.assertion.Pat.{Pat}
 use Rattle.fsl_core.specs.declared.expr.Expr.{Expr}

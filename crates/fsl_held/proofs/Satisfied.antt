@@ -2,12 +2,10 @@
 use Rattle.std.proofs.Common.{◌≡◌, ℕ, ◌+◌, ◌≤◌, true, false, List, [], ◌∷◌, ◌++◌, map, Some, ℤ, refl, ap, sym, subst, ◌∙◌, arith}
 use Rattle.fsl_core.specs.declared.assertion.Asrt.{Asrt}
 use Rattle.fsl_core.specs.declared.declaration.Inv.{Inv}
-use Rattle.fsl_core.specs.declared.mode.Rung.{Rung}
 use Rattle.fsl_core.specs.declared.mode.Rung.TheVariants.{Plain, Up, Down, Msg}
-use Rattle.fsl_core.specs.logic.Chunks.{same_rung}
 use Rattle.fsl_meaning.specs.Heaps.{Key as key, Heap, Truth, Claim, Claim as claim, Ground, Knows, AllKnown, Needs}
 use Rattle.fsl_asserted.specs.Needs.{Need, asks}
-use Rattle.fsl_asserted.specs.Carried.{moved, claim_at, carried, IsPlain}
+use Rattle.fsl_asserted.specs.Carried.{claim_at, carried, IsPlain}
 use Rattle.fsl_asserted.proofs.Asking.{some_is}
 use Rattle.fsl_asserted.proofs.Carried.{asks_carried}
 use Rattle.fsl_asserted.proofs.Stays.{asks_stay}
