@@ -4,7 +4,7 @@ use Rattle.std.proofs.Common.{◌≡◌, ◌≤◌, ◌+◌, ◌-◌, ℕ, zero,
 use Rattle.fsl_own.specs.Owning.{Resource, Cell, Permission, Tokens, Bank, same, Heap, only}
 use Rattle.fsl_own.specs.Atoms.{Atom, Points, Init, Rel, Acq, RmwAcq, Tok, Auth, asked}
 use Rattle.fsl_own.proofs.Totals.{same_true}
-use Rattle.fsl_good.specs.Pieces.{Level, AtPlain, AtUp, AtDown, same_level, Piece, level_at, asked_at, demand_at}
+use Rattle.fsl_good.specs.Pieces.{Level, AtPlain, same_level, Piece, level_at, asked_at, demand_at}
 
 -- ---- what an atom has a part of
 
@@ -114,7 +114,7 @@ asked_is (Tok b n) r = refl
 asked_is (Auth b n) r = refl
 
 -- n of a resource at a level
-abbrev pub amount : Bool → Resource → ℕ → Heap
+abbrev amount : Bool → Resource → ℕ → Heap
 amount b k n r = if b then only k n r else 0
 
 amount_by : (b c : Bool) → ◌≡◌ {A = ℕ} (if b then if c then 0 else 0 else 0) 0
@@ -142,7 +142,7 @@ empty_part b k r h = let z = amount_none b k 0 r refl in omega (arith, z)
 one_part : (b : Bool) (k r : Resource) (m h : ℕ) → suc m ≤ 1 → amount b k 1 r + h ≡ amount b k (suc m) r + h
 one_part b k r m h l = let e : 1 ≡ suc m = omega arith in ap (λ n. amount b k n r + h) e
 
-pub part_demand : (f : Values) (a : Level) (x : Atom) (m : ℕ) (zs : List Piece) (b : Level) (r : Resource) → m ≤ size x
+part_demand : (f : Values) (a : Level) (x : Atom) (m : ℕ) (zs : List Piece) (b : Level) (r : Resource) → m ≤ size x
     → demand_at b (part f a x m zs) r ≡ amount (same_level a b) (kind_of x) m r + demand_at b zs r
 part_demand f a (Points c n v) zero zs b r l = empty_part (same_level a b) (Cell c) r (demand_at b zs r)
 part_demand f a (Points c n v) (suc m) zs b r l = refl
@@ -176,7 +176,7 @@ given_demand : (f : Values) (a : Level) (d : Heap) (x : Piece) (xs : List Piece)
     → demand_at b (given f a d (x ∷ xs)) r ≡ amount (same_level x.level b) (kind_of x.atom) (take_of a d x) r + demand_at b (given f a (less a d x) xs) r
 given_demand f a d x xs b r =
     part_if_demand (is_placed a x) f x (take_of a d x) (given f a (less a d x) xs) b r (taken_most (is_placed a x) (size x.atom) (d (kind_of x.atom)))
-        (taken_none (is_placed a x) (size x.atom) (d (kind_of x.atom)))
+    (taken_none (is_placed a x) (size x.atom) (d (kind_of x.atom)))
 
 -- both sides together are what was there
 pub cut_sum : (f : Values) (a : Level) (d : Heap) (xs : List Piece) (b : Level) (r : Resource) → demand_at b (given f a d xs) r + demand_at b (rest f a d xs) r ≡ demand_at b xs r
@@ -210,4 +210,4 @@ given_is f a d (x ∷ xs) r l =
     let g = given_demand f a d x xs (level_of a r) r in
     let e = asked_here (level_of a r) x r in
     g ∙ taking (same (kind_of x.atom) r) (same_level x.level (level_of a r)) (size x.atom) (take_of a d x) (d r) (demand_at (level_of a r) xs r) (demand_at (level_of a r) (given f a (less a d x) xs) r)
-        (λ s. take_same a d x r (same_true (kind_of x.atom) r s)) (subst (λ n. d r ≤ n + demand_at (level_of a r) xs r) e l) (λ m. given_is f a (less a d x) xs r m)
+    (λ s. take_same a d x r (same_true (kind_of x.atom) r s)) (subst (λ n. d r ≤ n + demand_at (level_of a r) xs r) e l) (λ m. given_is f a (less a d x) xs r m)

@@ -1,22 +1,22 @@
 -- Any part of what a thread has can be taken out.
-use Rattle.std.proofs.Common.{◌≡◌, ◌≤◌, ◌+◌, ℕ, Bool, true, false, List, [], ◌∷◌, ◌++◌, Option, ℤ, pos, negsuc, refl, sym, ap, subst, ◌∙◌, arith}
+use Rattle.std.proofs.Common.{◌≡◌, ◌≤◌, ◌+◌, ℕ, Bool, true, false, List, ◌++◌, ℤ, pos, negsuc, refl, sym, subst, ◌∙◌, arith}
 use Rattle.fsl_core.specs.declared.mode.Rung.TheVariants.{Plain, Up, Down, Msg}
 use Rattle.fsl_core.specs.logic.Chunks.{same_rung}
-use Rattle.fsl_meaning.specs.Heaps.{Key, Key as key, Heap, Claim, IsInit, MayWrite, MayRead, MayUpdate, Knows, Needs, Agrees, KnowsMore}
+use Rattle.fsl_meaning.specs.Heaps.{Key, Key as key, Heap, Claim, IsInit, MayWrite, MayRead, MayUpdate, Knows, Needs, Agrees}
 use Rattle.fsl_own.specs.Owning.{Resource, Cell, Permission, Tokens, Bank}
 use Rattle.fsl_own.specs.Owning.{Heap as Amounts}
 use Rattle.fsl_good.specs.Pieces.{Level, AtPlain, AtUp, AtDown, same_level, Piece, all_placed, demand_at, Entails, IsPossible}
 use Rattle.fsl_good.proofs.Pieces.{demand_more, right_more, all_say}
 use Rattle.fsl_held.specs.Heaps.{heap_of, truth_of, ground_of, value_in, Kept}
-use Rattle.fsl_held.specs.Parts.{rung_of, HasCellsAt, is_claim_at, IsCut, Cut}
+use Rattle.fsl_held.specs.Parts.{rung_of, HasCellsAt, is_claim_at, Cut}
 use Rattle.fsl_held.specs.Laws.{HeapIsCut}
 use Rattle.fsl_held.proofs.Cuts.{Values, level_of, given, rest, cut_sum, given_is}
-use Rattle.fsl_held.proofs.Given.{EachOf, Turns, SaysPiece, each_says, all_say_by, given_each, rest_each, given_right, rest_right, says_turn, values_known, same_level_is, InPlace, given_placed, atoms_of, placed_again, placed_nowhere, given_knows, rest_knows}
+use Rattle.fsl_held.proofs.Given.{EachOf, SaysPiece, each_says, all_say_by, given_each, rest_each, given_right, rest_right, says_turn, values_known, same_level_is, InPlace, given_placed, atoms_of, placed_again, placed_nowhere, given_knows, rest_knows}
 use Rattle.fsl_held.proofs.Filled.{parts_agree, deal_of, reads_known}
 
 -- ---- a part of a heap, as amounts of resources
 
-abbrev pub amounts : Level → Heap → Amounts
+abbrev amounts : Level → Heap → Amounts
 amounts a d (Cell l) = d (key.Cell (rung_of a) l)
 amounts a d (Permission l p) = d (key.Permission l p)
 amounts a d (Tokens b) = d (key.Tokens (pos b))
@@ -32,6 +32,12 @@ amounts_here a d xs h (Cell l) = let e = cells_of_level a xs l in let m = h (key
 amounts_here a d xs h (Permission l p) = h (key.Permission l p)
 amounts_here a d xs h (Tokens b) = h (key.Tokens (pos b))
 amounts_here a d xs h (Bank b) = h (key.Bank (pos b))
+
+abbrev given_of : Level → Heap → List Piece → List Piece
+given_of a d xs = given (value_in xs) a (amounts a d) xs
+
+abbrev rest_of : Level → Heap → List Piece → List Piece
+rest_of a d xs = rest (value_in xs) a (amounts a d) xs
 
 -- a heap is counted by levels and resources
 heap_by : (xs ys zs : List Piece) → ((b : Level) (r : Resource) → demand_at b xs r + demand_at b ys r ≡ demand_at b zs r) → (k : Key) → heap_of xs k + heap_of ys k ≡ heap_of zs k
@@ -59,18 +65,18 @@ same_level_rung AtDown AtUp = refl
 same_level_rung AtDown AtDown = refl
 
 given_cells : (a : Level) (d : Heap) (xs : List Piece) → HasCellsAt (rung_of a) d → ((k : Key) → d k ≤ heap_of xs k) → (b : Level) (l : ℤ)
-    → demand_at b (given (value_in xs) a (amounts a d) xs) (Cell l) ≡ d (key.Cell (rung_of b) l)
+    → demand_at b (given_of a d xs) (Cell l) ≡ d (key.Cell (rung_of b) l)
 given_cells a d xs one h b l = by_case (same_level a b) refl
   where
-    by_case : (c : Bool) → same_level a b ≡ c → demand_at b (given (value_in xs) a (amounts a d) xs) (Cell l) ≡ d (key.Cell (rung_of b) l)
+    by_case : (c : Bool) → same_level a b ≡ c → demand_at b (given_of a d xs) (Cell l) ≡ d (key.Cell (rung_of b) l)
     by_case true e =
-        subst (λ (q : Level). demand_at q (given (value_in xs) a (amounts a d) xs) (Cell l) ≡ d (key.Cell (rung_of q) l)) (same_level_is a b e)
-            (given_is (value_in xs) a (amounts a d) xs (Cell l) (amounts_here a d xs h (Cell l)))
+        subst (λ (q : Level). demand_at q (given_of a d xs) (Cell l) ≡ d (key.Cell (rung_of q) l)) (same_level_is a b e)
+        (given_is (value_in xs) a (amounts a d) xs (Cell l) (amounts_here a d xs h (Cell l)))
     by_case false e =
-        placed_nowhere a b (given (value_in xs) a (amounts a d) xs) (Cell l) e (given_placed (value_in xs) a (amounts a d) xs) ∙ sym (one (rung_of b) l (same_level_rung a b ∙ e))
+        placed_nowhere a b (given_of a d xs) (Cell l) e (given_placed (value_in xs) a (amounts a d) xs) ∙ sym (one (rung_of b) l (same_level_rung a b ∙ e))
 
 given_taken : (a : Level) (d : Heap) (xs : List Piece) → HasCellsAt (rung_of a) d → ((k : Key) → d k ≤ heap_of xs k) → (k : Key)
-    → heap_of (given (value_in xs) a (amounts a d) xs) k ≡ d k
+    → heap_of (given_of a d xs) k ≡ d k
 given_taken a d xs one h (key.Cell Plain l) = given_cells a d xs one h AtPlain l
 given_taken a d xs one h (key.Cell Up l) = given_cells a d xs one h AtUp l
 given_taken a d xs one h (key.Cell Down l) = given_cells a d xs one h AtDown l
@@ -89,19 +95,19 @@ leave_kept : (xs ys : List Piece) (p : IsPossible xs) → EachOf (SaysPiece p.kn
 leave_kept xs ys p s h e l i args n k =
     reads_known p.known ys l i args n.0 s (deal_of p.known xs l i args (each_says p.known xs p.agree) k) (let m = e (key.Permission l n.0) in let o = n.1 in omega (arith, m, o))
 
-given_claims : (a : Level) (d : Heap) (xs : List Piece) (p : IsPossible xs) → EachOf (SaysPiece p.known) (given (value_in xs) a (amounts a d) xs) → ((k : Key) → d k ≤ heap_of (given (value_in xs) a (amounts a d) xs) k)
-    → (c : Claim) → is_claim_at (rung_of a) c ≡ true → Needs d c → Knows (ground_of xs) c → Knows (ground_of (given (value_in xs) a (amounts a d) xs)) c
+given_claims : (a : Level) (d : Heap) (xs : List Piece) (p : IsPossible xs) → EachOf (SaysPiece p.known) (given_of a d xs) → ((k : Key) → d k ≤ heap_of (given_of a d xs) k)
+    → (c : Claim) → is_claim_at (rung_of a) c ≡ true → Needs d c → Knows (ground_of xs) c → Knows (ground_of (given_of a d xs)) c
 given_claims a d xs p s h (IsInit r l) e n k = given_knows (value_in xs) a (amounts a d) xs (IsInit r l) tt e k
 given_claims a d xs p s h (MayWrite l i args) e n k = given_knows (value_in xs) a (amounts a d) xs (MayWrite l i args) tt e k
 given_claims a d xs p s h (MayUpdate l i args) e n k = given_knows (value_in xs) a (amounts a d) xs (MayUpdate l i args) tt e k
-given_claims a d xs p s h (MayRead l i args) e n k = leave_kept xs (given (value_in xs) a (amounts a d) xs) p s d h l i args n k
+given_claims a d xs p s h (MayRead l i args) e n k = leave_kept xs (given_of a d xs) p s d h l i args n k
 
-rest_claims : (a : Level) (d : Heap) (xs : List Piece) (p : IsPossible xs) → EachOf (SaysPiece p.known) (rest (value_in xs) a (amounts a d) xs) → (h : Heap) → ((k : Key) → h k ≤ heap_of (rest (value_in xs) a (amounts a d) xs) k)
-    → (c : Claim) → Needs h c → Knows (ground_of xs) c → Knows (ground_of (rest (value_in xs) a (amounts a d) xs)) c
+rest_claims : (a : Level) (d : Heap) (xs : List Piece) (p : IsPossible xs) → EachOf (SaysPiece p.known) (rest_of a d xs) → (h : Heap) → ((k : Key) → h k ≤ heap_of (rest_of a d xs) k)
+    → (c : Claim) → Needs h c → Knows (ground_of xs) c → Knows (ground_of (rest_of a d xs)) c
 rest_claims a d xs p s h e (IsInit r l) n k = rest_knows (value_in xs) a (amounts a d) xs (IsInit r l) tt k
 rest_claims a d xs p s h e (MayWrite l i args) n k = rest_knows (value_in xs) a (amounts a d) xs (MayWrite l i args) tt k
 rest_claims a d xs p s h e (MayUpdate l i args) n k = rest_knows (value_in xs) a (amounts a d) xs (MayUpdate l i args) tt k
-rest_claims a d xs p s h e (MayRead l i args) n k = leave_kept xs (rest (value_in xs) a (amounts a d) xs) p s h e l i args n k
+rest_claims a d xs p s h e (MayRead l i args) n k = leave_kept xs (rest_of a d xs) p s h e l i args n k
 
 -- ---- the cut
 
@@ -116,7 +122,7 @@ record CutInto (a : Level) (d : Heap) (xs gs rs : List Piece) : Type 0 where
   possible : IsPossible rs
 
 cut_into : (a : Level) (d : Heap) (xs : List Piece) → IsPossible xs → HasCellsAt (rung_of a) d → ((k : Key) → d k ≤ heap_of xs k)
-    → CutInto a d xs (given (value_in xs) a (amounts a d) xs) (rest (value_in xs) a (amounts a d) xs)
+    → CutInto a d xs (given_of a d xs) (rest_of a d xs)
 cut_into a d xs p one h =
     let f : Values = value_in xs in
     let n : Amounts = amounts a d in
@@ -161,4 +167,4 @@ cut_of a d xs gs rs p c =
     }
 
 pub heap_cut : HeapIsCut
-heap_cut a d xs p one h = cut_of a d xs (given (value_in xs) a (amounts a d) xs) (rest (value_in xs) a (amounts a d) xs) (given_placed (value_in xs) a (amounts a d) xs) (cut_into a d xs p one h)
+heap_cut a d xs p one h = cut_of a d xs (given_of a d xs) (rest_of a d xs) (given_placed (value_in xs) a (amounts a d) xs) (cut_into a d xs p one h)

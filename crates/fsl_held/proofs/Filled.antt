@@ -1,24 +1,24 @@
 -- What both sides of a cut say: who has a part of a cell says its value, and a permission, an authority and the leave
 -- beside a permission are said by who has them. Of one of these there is one piece alone.
-use Rattle.std.proofs.Common.{◌≡◌, ◌≤◌, ◌+◌, ◌==◌, ℕ, zero, suc, Bool, true, false, ◌&&◌, ◌⊎◌, inl, inr, List, [], ◌∷◌, Option, Some, None, ℤ, pos, negsuc, refl, sym, ap, subst, ◌∙◌, arith, if◌then◌else◌}
+use Rattle.std.proofs.Common.{◌≡◌, ◌≤◌, ◌+◌, ◌==◌, ℕ, Bool, true, false, ◌&&◌, ◌⊎◌, inl, inr, List, [], ◌∷◌, Option, Some, None, ℤ, pos, negsuc, refl, sym, ap, subst, ◌∙◌, arith, if◌then◌else◌}
 use Rattle.std.specs.Ordering.{int_eq}
 use Rattle.std.proofs.lemmas.Bool.{cases_Bool, and_parts, and_from, eqb-true, eq-eqb}
 use Rattle.fsl_core.specs.declared.mode.Rung.{Rung}
 use Rattle.fsl_core.specs.declared.mode.Rung.TheVariants.{Plain, Up, Down, Msg}
 use Rattle.fsl_meaning.specs.Heaps.{Key, Key as key, Heap as Amounts, MayRead, Agrees}
 use Rattle.fsl_meaning.proofs.Deciding.{equal, is_equal}
-use Rattle.fsl_own.specs.Owning.{Resource, Cell, Permission, Tokens, Bank, Heap, only, Deal, Known, limit}
+use Rattle.fsl_own.specs.Owning.{Resource, Cell, Permission, Bank, Heap, only, Deal, Known}
 use Rattle.fsl_own.specs.Atoms.{Atom, Points, Init, Rel, Acq, RmwAcq, Tok, Auth, asked, Says, IsFor}
 use Rattle.fsl_own.proofs.Totals.{none_or_some, only_here, only_elsewhere, only_some}
-use Rattle.fsl_good.specs.Pieces.{Level, AtPlain, AtUp, AtDown, same_level, Piece, asked_at, demand_at, IsPossible, AllSay}
+use Rattle.fsl_good.specs.Pieces.{Level, AtPlain, AtUp, AtDown, same_level, Piece, asked_at, demand_at, IsPossible}
 use Rattle.fsl_held.specs.Heaps.{heap_of, truth_of, is_at, same_numbers, same_leave, says, knows_in, or_else, or_this, value_by, value_in, out_by, out_in, count_by, count_in, bank_in}
 use Rattle.fsl_held.proofs.Cuts.{Values}
-use Rattle.fsl_held.proofs.Given.{EachOf, HasShare, Turns, SaysPiece, each_says}
+use Rattle.fsl_held.proofs.Given.{EachOf, Turns, SaysPiece, each_says}
 
 -- ---- a resource of which pieces say something
 
 -- a piece says v, or has nothing of the resource and says nothing
-abbrev pub Tells : {X : Type 0} → (Atom → Option X) → Resource → X → Piece → Type 0
+abbrev Tells : {X : Type 0} → (Atom → Option X) → Resource → X → Piece → Type 0
 Tells say r v x = (say x.atom ≡ Some v) ⊎ ((say x.atom ≡ None) × (asked x.atom r ≡ 0))
 
 none_at : (b : Bool) (n : ℕ) → n ≡ 0 → (if b then n else 0) ≡ 0
@@ -26,7 +26,7 @@ none_at true n e = e
 none_at false n e = refl
 
 -- who has some of it says v; `look` gives what the first piece says
-pub told : {X : Type 0} (say : Atom → Option X) (look : List Piece → Option X) → ((x : Piece) (xs : List Piece) → look (x ∷ xs) ≡ or_else (say x.atom) (look xs))
+told : {X : Type 0} (say : Atom → Option X) (look : List Piece → Option X) → ((x : Piece) (xs : List Piece) → look (x ∷ xs) ≡ or_else (say x.atom) (look xs))
     → (r : Resource) (v : X) (a : Level) (xs : List Piece) → EachOf (Tells say r v) xs → 1 ≤ demand_at a xs r → look xs ≡ Some v
 told say look is r v a [] p l = absurd (let z : 1 ≤ 0 = l in omega arith)
 told {X = X} say look is r v a (x ∷ xs) p l = is x xs ∙ elim p.0 [
@@ -36,19 +36,19 @@ told {X = X} say look is r v a (x ∷ xs) p l = is x xs ∙ elim p.0 [
 
 -- ---- resources of which there is one alone
 
-pub record SaysOne {X : Type 0} (say : Atom → Option X) (r : Resource) (x : Atom) : Type 0 where
-  pub what : X
-  pub is : say x ≡ Some what
-  pub has : 1 ≤ asked x r
+record SaysOne {X : Type 0} (say : Atom → Option X) (r : Resource) (x : Atom) : Type 0 where
+  what : X
+  is : say x ≡ Some what
+  has : 1 ≤ asked x r
 
-abbrev pub Speaks : {X : Type 0} → (Atom → Option X) → Resource → Type 0
+abbrev Speaks : {X : Type 0} → (Atom → Option X) → Resource → Type 0
 Speaks say r = (x : Atom) → SaysOne say r x ⊎ ((say x ≡ None) × (asked x r ≡ 0))
 
 -- at all levels
-abbrev pub in_all : List Piece → Heap
+abbrev in_all : List Piece → Heap
 in_all xs r = demand_at AtPlain xs r + (demand_at AtUp xs r + demand_at AtDown xs r)
 
-pub in_all_more : (x : Piece) (xs : List Piece) (r : Resource) → in_all (x ∷ xs) r ≡ asked x.atom r + in_all xs r
+in_all_more : (x : Piece) (xs : List Piece) (r : Resource) → in_all (x ∷ xs) r ≡ asked x.atom r + in_all xs r
 in_all_more x xs r = by_level x.level (asked x.atom r) (demand_at AtPlain xs r) (demand_at AtUp xs r) (demand_at AtDown xs r)
   where
     by_level : (a : Level) (n i j k : ℕ) → ((if same_level a AtPlain then n else 0) + i) + (((if same_level a AtUp then n else 0) + j) + ((if same_level a AtDown then n else 0) + k)) ≡ n + (i + (j + k))
@@ -56,7 +56,7 @@ in_all_more x xs r = by_level x.level (asked x.atom r) (demand_at AtPlain xs r) 
     by_level AtUp n i j k = omega arith
     by_level AtDown n i j k = omega arith
 
-pub in_all_least : (a : Level) (xs : List Piece) (r : Resource) → demand_at a xs r ≤ in_all xs r
+in_all_least : (a : Level) (xs : List Piece) (r : Resource) → demand_at a xs r ≤ in_all xs r
 in_all_least AtPlain xs r = omega arith
 in_all_least AtUp xs r = omega arith
 in_all_least AtDown xs r = omega arith
@@ -68,7 +68,7 @@ silent say r s v (x ∷ xs) l =
     (elim (s x.atom) [ inl o ↦ absurd (let h = o.has in omega (arith, m, h, l)) | inr z ↦ inr z ], silent say r s v xs (omega (arith, m, l)))
 
 -- of one that is there, all say the same
-pub sole : {X : Type 0} (say : Atom → Option X) (r : Resource) → Speaks say r → (xs : List Piece) → in_all xs r ≤ 1 → 1 ≤ in_all xs r → (v : X) × EachOf (Tells say r v) xs
+sole : {X : Type 0} (say : Atom → Option X) (r : Resource) → Speaks say r → (xs : List Piece) → in_all xs r ≤ 1 → 1 ≤ in_all xs r → (v : X) × EachOf (Tells say r v) xs
 sole say r s [] l h = absurd (let z : 1 ≤ 0 + (0 + 0) = h in omega arith)
 sole say r s (x ∷ xs) l h =
     let m = in_all_more x xs r in
@@ -79,7 +79,7 @@ sole say r s (x ∷ xs) l h =
 
 -- ---- permissions and authorities
 
-pub out_speaks : (l : ℤ) (p : ℕ) → Speaks (λ x. out_by x l p) (Permission l p)
+out_speaks : (l : ℤ) (p : ℕ) → Speaks (λ x. out_by x l p) (Permission l p)
 out_speaks l p (Acq c inv args q out) = elim (cases_Bool (int_eq l c && p == q)) [
   | inl t ↦
       let i = and_parts (int_eq l c) (p == q) t in
@@ -88,11 +88,14 @@ out_speaks l p (Acq c inv args q out) = elim (cases_Bool (int_eq l c && p == q))
       let same : Permission c q ≡ Permission l p = λ j. Permission (sym e j) (sym f j) in
       let has : only (Permission c q) 1 (Permission l p) ≡ 1 = subst (λ (r : Resource). only (Permission c q) 1 r ≡ 1) same (only_here (Permission c q) 1) in
       inl (record { what = out; is = rw t refl; has = omega (arith, has) })
-  | inr t ↦ inr (rw t refl, only_elsewhere (Permission c q) (Permission l p) 1 (λ e. absurd (
-      let f : l ≡ c = cc in
-      let g : p ≡ q = cc in
-      let j : (int_eq l c && p == q) ≡ true = and_from (int_eq l c) (p == q) (is_equal l c f) (eq-eqb p q g) in
-      cc)))
+  | inr t ↦ inr (
+    rw t refl,
+    only_elsewhere (Permission c q) (Permission l p) 1 (λ e. absurd (
+        let f : l ≡ c = cc in
+        let g : p ≡ q = cc in
+        let j : (int_eq l c && p == q) ≡ true = and_from (int_eq l c) (p == q) (is_equal l c f) (eq-eqb p q g) in
+        cc)),
+  )
 ]
 out_speaks l p (Points c n v) = inr (refl, refl)
 out_speaks l p (Init c) = inr (refl, refl)
@@ -101,7 +104,7 @@ out_speaks l p (RmwAcq c inv args) = inr (refl, refl)
 out_speaks l p (Tok b n) = inr (refl, refl)
 out_speaks l p (Auth b n) = inr (refl, refl)
 
-pub count_speaks : (b : ℕ) → Speaks (λ x. count_by x b) (Bank b)
+count_speaks : (b : ℕ) → Speaks (λ x. count_by x b) (Bank b)
 count_speaks b (Auth c n) = elim (cases_Bool (b == c)) [
   | inl t ↦
       let has : only (Bank c) 1 (Bank b) ≡ 1 = subst (λ (r : Resource). only (Bank c) 1 r ≡ 1) (ap Bank (sym (eqb-true b c t))) (only_here (Bank c) 1) in
@@ -148,39 +151,53 @@ value_turn f l v e P a (RmwAcq c inv args) m s h = inr (refl, refl)
 value_turn f l v e P a (Tok b n) m s h = inr (refl, refl)
 value_turn f l v e P a (Auth b n) m s h = inr (refl, refl)
 
+-- two lists say the same
+record SaySame {X : Type 0} (o p : Option X) : Type 0 where
+  what : X
+  before : o ≡ Some what
+  after : p ≡ Some what
+
+-- who still has one of what there is one alone says what was said of it
+still_said : {X : Type 0} (say : Atom → Option X) (look : List Piece → Option X) → ((x : Piece) (xs : List Piece) → look (x ∷ xs) ≡ or_else (say x.atom) (look xs))
+    → (r : Resource) → Speaks say r → (xs ys : List Piece) → ((v : X) → EachOf (Tells say r v) xs → EachOf (Tells say r v) ys)
+    → in_all xs r ≤ 1 → demand_at AtPlain ys r ≤ demand_at AtPlain xs r → 1 ≤ demand_at AtPlain ys r → SaySame (look xs) (look ys)
+still_said say look is r speaks xs ys each one within here =
+    let there : 1 ≤ demand_at AtPlain xs r = omega (arith, within, here) in
+    let s = sole say r speaks xs one (let m = in_all_least AtPlain xs r in omega (arith, m, there)) in
+    record { what = s.0; before = told say look is r s.0 AtPlain xs s.1 there; after = told say look is r s.0 AtPlain ys (each s.0 s.1) here }
+
 -- ys are parts of xs: what is so of each of xs is so of each of ys, in the sense of `Turns`
 pub parts_agree : (xs ys : List Piece) → IsPossible xs → ((P Q : Piece → Type 0) → Turns (value_in xs) P Q → EachOf P xs → EachOf Q ys)
     → ((r : Resource) → demand_at AtPlain ys r ≤ demand_at AtPlain xs r) → (h : Amounts) → ((k : Key) → h k ≤ heap_of ys k) → Agrees (truth_of xs) (truth_of ys) h
 parts_agree xs ys possible each within h enough = record { value = value; out = out; bank = bank }
   where
-    at : (a : Level) (l x : ℤ) → 1 ≤ demand_at a ys (Cell l) → value_in xs l ≡ Some x → value_in ys l ≡ Some x
-    at a l x i e =
+    value_at : (a : Level) (l x : ℤ) → 1 ≤ demand_at a ys (Cell l) → value_in xs l ≡ Some x → value_in ys l ≡ Some x
+    value_at a l x i e =
         told (λ y. value_by y l) (λ zs. value_in zs l) (λ z zs. refl) (Cell l) x a ys
-            (each (SaysPiece possible.known) (Tells (λ y. value_by y l) (Cell l) x) (value_turn (value_in xs) l x e (SaysPiece possible.known)) (each_says possible.known xs possible.agree)) i
+        (each (SaysPiece possible.known) (Tells (λ y. value_by y l) (Cell l) x) (value_turn (value_in xs) l x e (SaysPiece possible.known)) (each_says possible.known xs possible.agree)) i
+
     value : (r : Rung) (l x : ℤ) → 1 ≤ h (key.Cell r l) → value_in xs l ≡ Some x → value_in ys l ≡ Some x
-    value Plain l x i e = at AtPlain l x (let m = enough (key.Cell Plain l) in omega (arith, m, i)) e
-    value Up l x i e = at AtUp l x (let m = enough (key.Cell Up l) in omega (arith, m, i)) e
-    value Down l x i e = at AtDown l x (let m = enough (key.Cell Down l) in omega (arith, m, i)) e
+    value Plain l x i e = value_at AtPlain l x (let m = enough (key.Cell Plain l) in omega (arith, m, i)) e
+    value Up l x i e = value_at AtUp l x (let m = enough (key.Cell Up l) in omega (arith, m, i)) e
+    value Down l x i e = value_at AtDown l x (let m = enough (key.Cell Down l) in omega (arith, m, i)) e
     value Msg l x i e = absurd (let m : h (key.Cell Msg l) ≤ 0 = enough (key.Cell Msg l) in omega (arith, m, i))
+
     out : (l : ℤ) (p : ℕ) → 1 ≤ h (key.Permission l p) → or_this (out_in ys l p) [] ≡ or_this (out_in xs l p) []
     out l p i =
         let r = Permission l p in
-        let here : 1 ≤ demand_at AtPlain ys r = let m = enough (key.Permission l p) in omega (arith, m, i) in
-        let there : 1 ≤ demand_at AtPlain xs r = let m = within r in omega (arith, m, here) in
-        let s = sole (λ x. out_by x l p) r (out_speaks l p) xs (possible.within r) (let m = in_all_least AtPlain xs r in omega (arith, m, there)) in
-        let before = told (λ x. out_by x l p) (λ zs. out_in zs l p) (λ z zs. refl) r s.0 AtPlain xs s.1 there in
-        let after = told (λ x. out_by x l p) (λ zs. out_in zs l p) (λ z zs. refl) r s.0 AtPlain ys (each (Tells (λ x. out_by x l p) r s.0) (Tells (λ x. out_by x l p) r s.0) (out_turn (value_in xs) l p s.0) s.1) here in
-        ap (λ (o : Option (List ℤ)). or_this o []) (after ∙ sym before)
+        let say : Atom → Option (List ℤ) = λ x. out_by x l p in
+        let s = still_said say (λ zs. out_in zs l p) (λ z zs. refl) r (out_speaks l p) xs ys (λ v. each (Tells say r v) (Tells say r v) (out_turn (value_in xs) l p v)) (possible.within r) (within r)
+            (let m = enough (key.Permission l p) in omega (arith, m, i)) in
+        ap (λ (o : Option (List ℤ)). or_this o []) (s.after ∙ sym s.before)
+
     bank : (b : ℤ) → 1 ≤ h (key.Bank b) → bank_in ys b ≡ bank_in xs b
     bank (negsuc b) i = refl
     bank (pos b) i =
         let r = Bank b in
-        let here : 1 ≤ demand_at AtPlain ys r = let m = enough (key.Bank (pos b)) in omega (arith, m, i) in
-        let there : 1 ≤ demand_at AtPlain xs r = let m = within r in omega (arith, m, here) in
-        let s = sole (λ x. count_by x b) r (count_speaks b) xs (possible.within r) (let m = in_all_least AtPlain xs r in omega (arith, m, there)) in
-        let before = told (λ x. count_by x b) (λ zs. count_in zs b) (λ z zs. refl) r s.0 AtPlain xs s.1 there in
-        let after = told (λ x. count_by x b) (λ zs. count_in zs b) (λ z zs. refl) r s.0 AtPlain ys (each (Tells (λ x. count_by x b) r s.0) (Tells (λ x. count_by x b) r s.0) (count_turn (value_in xs) b s.0) s.1) here in
-        rw (before, after) refl
+        let say : Atom → Option ℕ = λ x. count_by x b in
+        let s = still_said say (λ zs. count_in zs b) (λ z zs. refl) r (count_speaks b) xs ys (λ n. each (Tells say r n) (Tells say r n) (count_turn (value_in xs) b n)) (possible.within r) (within r)
+            (let m = enough (key.Bank (pos b)) in omega (arith, m, i)) in
+        rw (s.before, s.after) refl
 
 -- ---- leave to read
 
@@ -250,6 +267,7 @@ reads_known k (z ∷ zs) l i xs p s d h = elim (none_or_some (asked_at AtPlain z
     last : (b : Bool) → knows_in zs (MayRead l i xs) ≡ true → (if b then true else knows_in zs (MayRead l i xs)) ≡ true
     last true e = refl
     last false e = e
+
     first : (b : Bool) → b ≡ true → (if b then true else knows_in zs (MayRead l i xs)) ≡ true
     first true e = refl
     first false e = absurd (cc)

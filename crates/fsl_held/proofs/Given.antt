@@ -1,20 +1,19 @@
 -- What is so of each piece of both sides of a cut, since each is a part of a piece that was there: it is right, it stands
 -- where it was placed, and what is known for good is known on both sides.
-use Rattle.std.proofs.Common.{◌≡◌, ◌≤◌, ◌+◌, ◌-◌, ℕ, zero, suc, Bool, true, false, ◌&&◌, ◌⊎◌, inl, inr, List, [], ◌∷◌, ◌++◌, Option, Some, None, ℤ, refl, sym, ap, subst, ◌∙◌, arith, if◌then◌else◌}
+use Rattle.std.proofs.Common.{◌≡◌, ◌≤◌, ℕ, zero, suc, Bool, true, false, inl, inr, List, [], ◌∷◌, Option, Some, None, ℤ, refl, sym, ap, subst, ◌∙◌, arith, if◌then◌else◌}
 use Rattle.std.specs.Ordering.{int_eq}
 use Rattle.std.proofs.lemmas.Bool.{and_parts}
 use Rattle.fsl_core.specs.declared.mode.Rung.{Rung}
 use Rattle.fsl_core.specs.declared.mode.Rung.TheVariants.{Plain}
-use Rattle.fsl_core.specs.logic.Chunks.{same_rung}
 use Rattle.fsl_meaning.specs.Heaps.{Claim, IsInit, MayWrite, MayRead, MayUpdate}
 use Rattle.fsl_meaning.proofs.Deciding.{equal}
 use Rattle.fsl_meaning.proofs.Heaps.{same_rung_is}
 use Rattle.fsl_graph.specs.declared.graph.Graph.{Graph}
 use Rattle.fsl_graph.specs.Positions.{Holder}
-use Rattle.fsl_own.specs.Owning.{Resource, Heap, only, Known}
+use Rattle.fsl_own.specs.Owning.{Resource, Heap, Known}
 use Rattle.fsl_own.specs.Atoms.{Atom, Points, Init, Rel, Acq, RmwAcq, Tok, Auth, asked, Says, IsRight}
 use Rattle.fsl_own.proofs.Totals.{none_or_some, only_some}
-use Rattle.fsl_good.specs.Pieces.{Level, AtPlain, AtUp, AtDown, same_level, holder_of, Piece, level_at, placed, all_placed, asked_at, demand_at, RightPieces, AllSay}
+use Rattle.fsl_good.specs.Pieces.{Level, AtPlain, AtUp, AtDown, same_level, holder_of, Piece, level_at, placed, all_placed, demand_at, RightPieces, AllSay}
 use Rattle.fsl_held.specs.Heaps.{is_at, same_leave, says, knows_in, value_by, value_in, or_else}
 use Rattle.fsl_held.specs.Parts.{rung_of, is_claim_at}
 use Rattle.fsl_held.proofs.Cuts.{kind_of, size, level_of, level_is, Values, sized, part, part_if, is_placed, take_of, less, given, rest, asked_is}
@@ -39,7 +38,7 @@ HasShare (Auth b n) m = Unit {0}
 abbrev pub Turns : Values → (Piece → Type 0) → (Piece → Type 0) → Type 0
 Turns f P Q = (a : Level) (x : Atom) (m : ℕ) → HasShare x m → P (record { level = a; atom = x }) → Q (record { level = a; atom = sized f x m })
 
-pub each_part : (f : Values) (P Q : Piece → Type 0) → Turns f P Q → (a : Level) (x : Atom) (m : ℕ) (zs : List Piece) → P (record { level = a; atom = x }) → EachOf Q zs → EachOf Q (part f a x m zs)
+each_part : (f : Values) (P Q : Piece → Type 0) → Turns f P Q → (a : Level) (x : Atom) (m : ℕ) (zs : List Piece) → P (record { level = a; atom = x }) → EachOf Q zs → EachOf Q (part f a x m zs)
 each_part f P Q t a (Points c n v) zero zs p q = q
 each_part f P Q t a (Points c n v) (suc m) zs p q = (t a (Points c n v) (suc m) (omega arith) p, q)
 each_part f P Q t a (Init l) m zs p q = (t a (Init l) m tt p, q)
@@ -59,7 +58,7 @@ pub given_each : (f : Values) (P Q : Piece → Type 0) → Turns f P Q → (a : 
 given_each f P Q t a d [] p = tt
 given_each f P Q t a d (x ∷ xs) p =
     part_if_each (is_placed a x) f Q x (take_of a d x) (given f a (less a d x) xs) (λ e. each_part f P Q t x.level x.atom (take_of a d x) (given f a (less a d x) xs) p.0)
-        (given_each f P Q t a (less a d x) xs p.1)
+    (given_each f P Q t a (less a d x) xs p.1)
 
 pub rest_each : (f : Values) (P Q : Piece → Type 0) → Turns f P Q → (a : Level) (d : Heap) (xs : List Piece) → EachOf P xs → EachOf Q (rest f a d xs)
 rest_each f P Q t a d [] p = tt
@@ -170,8 +169,8 @@ pub given_placed : (f : Values) (a : Level) (d : Heap) (xs : List Piece) → Eac
 given_placed f a d [] = tt
 given_placed f a d (x ∷ xs) =
     part_if_each (is_placed a x) f (InPlace a) x (take_of a d x) (given f a (less a d x) xs)
-        (λ e. each_part f (InPlace a) (InPlace a) (placed_part f a) x.level x.atom (take_of a d x) (given f a (less a d x) xs) (same_level_is x.level (level_at a x.atom) e))
-        (given_placed f a (less a d x) xs)
+    (λ e. each_part f (InPlace a) (InPlace a) (placed_part f a) x.level x.atom (take_of a d x) (given f a (less a d x) xs) (same_level_is x.level (level_at a x.atom) e))
+    (given_placed f a (less a d x) xs)
 
 abbrev pub atoms_of : List Piece → List Atom
 atoms_of [] = []
@@ -285,4 +284,4 @@ pub given_knows : (f : Values) (a : Level) (d : Heap) (xs : List Piece) (c : Cla
 given_knows f a d [] c q e h = h
 given_knows f a d (x ∷ xs) c q e h =
     given_also (is_placed a x) f x (take_of a d x) (given f a (less a d x) xs) c (knows_in xs c) (says x.level x.atom c) q refl (placed_by a x.level x.atom c q e)
-        (given_knows f a (less a d x) xs c q e) h
+    (given_knows f a (less a d x) xs c q e) h
