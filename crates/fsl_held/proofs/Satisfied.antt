@@ -12,7 +12,8 @@ use Rattle.fsl_asserted.proofs.Stays.{asks_stay}
 use Rattle.fsl_good.specs.Pieces.{AtPlain, all_placed}
 use Rattle.fsl_held.specs.Heaps.{heap_of, truth_of, ground_of}
 use Rattle.fsl_held.specs.Parts.{HasCellsAt, is_claim_at}
-use Rattle.fsl_held.specs.Laws.{HeapIsCut, NeedIsParted, FrontSatisfies}
+use Rattle.fsl_held.specs.Laws.{NeedIsParted, FrontSatisfies}
+use Rattle.fsl_held.proofs.Cutting.{heap_cut}
 use Rattle.fsl_held.proofs.Fronts.{front_is_kept}
 use Rattle.fsl_held.proofs.Kept.{EachNeeded, asks_held, asked_is_kept}
 
@@ -58,10 +59,10 @@ all_told g later h (c ∷ cs) told p n k = (told c p.0 n.0 k.0, all_told g later
 line_taken : (n m : ℕ) → m ≡ n → n ≤ m
 line_taken n m e = omega arith
 
-pub need_is_parted : HeapIsCut → NeedIsParted
-need_is_parted cut invs xs a env n p plain asked within =
+pub need_is_parted : NeedIsParted
+need_is_parted invs xs a env n p plain asked within =
     let need = plain_need invs (truth_of xs) a env n plain asked.is in
-    let c = cut AtPlain n.heap xs p need.cells within in
+    let c = heap_cut AtPlain n.heap xs p need.cells within in
     let mine = all_placed AtPlain c.atoms in
     record {
       atoms = c.atoms;

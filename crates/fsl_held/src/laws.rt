@@ -3,7 +3,12 @@ ghost use Rattle.fsl_held.specs.Laws.{HeapIsBounded, HeapIsCut, CellIsTaken, Cel
 
 /// What is possible is no more than there is.
 pub fn heaps()
-    ensures bounded { HeapIsBounded }
+    ensures { HeapIsBounded }
+{}
+
+/// Any part of what a thread has can be taken out of its pieces.
+pub fn cuts()
+    ensures { HeapIsCut }
 {}
 
 /// Who has all shares of a cell can take them out, and who has one knows the value that is said of it.
@@ -14,12 +19,12 @@ pub fn cells()
 
 /// Pieces in front of others say what they said, and so do those behind.
 pub fn fronts()
-    ensures kept { FrontIsKept }
+    ensures { FrontIsKept }
 {}
 
 /// What an assertion asks for stays where it is kept, can be taken out, and can be put in front of others.
 pub fn assertions()
     ensures kept { AskedIsKept }
-    ensures parted { HeapIsCut → NeedIsParted }
+    ensures parted { NeedIsParted }
     ensures front { FrontSatisfies }
 {}
