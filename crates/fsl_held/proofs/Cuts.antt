@@ -209,5 +209,6 @@ given_is f a d [] r l = omega arith
 given_is f a d (x ∷ xs) r l =
     let g = given_demand f a d x xs (level_of a r) r in
     let e = asked_here (level_of a r) x r in
-    g ∙ taking (same (kind_of x.atom) r) (same_level x.level (level_of a r)) (size x.atom) (take_of a d x) (d r) (demand_at (level_of a r) xs r) (demand_at (level_of a r) (given f a (less a d x) xs) r)
+    g ∙ taking (same (kind_of x.atom) r) (same_level x.level (level_of a r)) (size x.atom) (take_of a d x) (d r)
+    (demand_at (level_of a r) xs r) (demand_at (level_of a r) (given f a (less a d x) xs) r)
     (λ s. take_same a d x r (same_true (kind_of x.atom) r s)) (subst (λ n. d r ≤ n + demand_at (level_of a r) xs r) e l) (λ m. given_is f a (less a d x) xs r m)

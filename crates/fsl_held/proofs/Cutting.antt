@@ -11,7 +11,8 @@ use Rattle.fsl_held.specs.Heaps.{heap_of, truth_of, ground_of, value_in, Kept}
 use Rattle.fsl_held.specs.Parts.{rung_of, HasCellsAt, is_claim_at, Cut}
 use Rattle.fsl_held.specs.Laws.{HeapIsCut}
 use Rattle.fsl_held.proofs.Cuts.{Values, level_of, given, rest, cut_sum, given_is}
-use Rattle.fsl_held.proofs.Given.{EachOf, SaysPiece, each_says, all_say_by, given_each, rest_each, given_right, rest_right, says_turn, values_known, same_level_is, InPlace, given_placed, atoms_of, placed_again, placed_nowhere, given_knows, rest_knows}
+use Rattle.fsl_held.proofs.Given.{EachOf, SaysPiece, each_says, all_say_by, given_each, rest_each, given_right, rest_right, says_turn, values_known}
+use Rattle.fsl_held.proofs.Given.{same_level_is, InPlace, given_placed, atoms_of, placed_again, placed_nowhere, given_knows, rest_knows}
 use Rattle.fsl_held.proofs.Filled.{parts_agree, deal_of, reads_known}
 
 -- ---- a part of a heap, as amounts of resources

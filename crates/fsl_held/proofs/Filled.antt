@@ -51,7 +51,8 @@ in_all xs r = demand_at AtPlain xs r + (demand_at AtUp xs r + demand_at AtDown x
 in_all_more : (x : Piece) (xs : List Piece) (r : Resource) → in_all (x ∷ xs) r ≡ asked x.atom r + in_all xs r
 in_all_more x xs r = by_level x.level (asked x.atom r) (demand_at AtPlain xs r) (demand_at AtUp xs r) (demand_at AtDown xs r)
   where
-    by_level : (a : Level) (n i j k : ℕ) → ((if same_level a AtPlain then n else 0) + i) + (((if same_level a AtUp then n else 0) + j) + ((if same_level a AtDown then n else 0) + k)) ≡ n + (i + (j + k))
+    by_level : (a : Level) (n i j k : ℕ)
+        → ((if same_level a AtPlain then n else 0) + i) + (((if same_level a AtUp then n else 0) + j) + ((if same_level a AtDown then n else 0) + k)) ≡ n + (i + (j + k))
     by_level AtPlain n i j k = omega arith
     by_level AtUp n i j k = omega arith
     by_level AtDown n i j k = omega arith
@@ -187,7 +188,7 @@ parts_agree xs ys possible each within h enough = record { value = value; out = 
         let r = Permission l p in
         let say : Atom → Option (List ℤ) = λ x. out_by x l p in
         let s = still_said say (λ zs. out_in zs l p) (λ z zs. refl) r (out_speaks l p) xs ys (λ v. each (Tells say r v) (Tells say r v) (out_turn (value_in xs) l p v)) (possible.within r) (within r)
-            (let m = enough (key.Permission l p) in omega (arith, m, i)) in
+        (let m = enough (key.Permission l p) in omega (arith, m, i)) in
         ap (λ (o : Option (List ℤ)). or_this o []) (s.after ∙ sym s.before)
 
     bank : (b : ℤ) → 1 ≤ h (key.Bank b) → bank_in ys b ≡ bank_in xs b
@@ -196,7 +197,7 @@ parts_agree xs ys possible each within h enough = record { value = value; out = 
         let r = Bank b in
         let say : Atom → Option ℕ = λ x. count_by x b in
         let s = still_said say (λ zs. count_in zs b) (λ z zs. refl) r (count_speaks b) xs ys (λ n. each (Tells say r n) (Tells say r n) (count_turn (value_in xs) b n)) (possible.within r) (within r)
-            (let m = enough (key.Bank (pos b)) in omega (arith, m, i)) in
+        (let m = enough (key.Bank (pos b)) in omega (arith, m, i)) in
         rw (s.before, s.after) refl
 
 -- ---- leave to read
@@ -216,7 +217,8 @@ same_numbers_is xs ys h = absurd (let f : false ≡ true = h in cc)
 
 leave_from : (c l : ℤ) (i j : ℕ) (xs ys : List ℤ) → c ≡ l → i ≡ j → xs ≡ ys → same_leave c i xs l j ys ≡ true
 leave_from c l i j xs ys e f g =
-    and_from (int_eq c l) (i == j && same_numbers xs ys) (is_equal c l e) (and_from (i == j) (same_numbers xs ys) (eq-eqb i j f) (subst (λ (zs : List ℤ). same_numbers xs zs ≡ true) g (same_numbers_self xs)))
+    and_from (int_eq c l) (i == j && same_numbers xs ys) (is_equal c l e)
+    (and_from (i == j) (same_numbers xs ys) (eq-eqb i j f) (subst (λ (zs : List ℤ). same_numbers xs zs ≡ true) g (same_numbers_self xs)))
 
 -- what a location was made for is known of all that speak of it
 deal_by : (k : Known) (b : Level) (x : Atom) (l : ℤ) (i : ℕ) (xs : List ℤ) → Says k x → says b x (MayRead l i xs) ≡ true → IsFor k l false i xs
@@ -234,14 +236,16 @@ pub deal_of : (k : Known) (zs : List Piece) (l : ℤ) (i : ℕ) (xs : List ℤ) 
 deal_of k [] l i xs s h = absurd (let f : false ≡ true = h in cc)
 deal_of k (z ∷ zs) l i xs s h = by_case (says z.level z.atom (MayRead l i xs)) refl h (deal_of k zs l i xs s.1)
   where
-    by_case : (b : Bool) → says z.level z.atom (MayRead l i xs) ≡ b → (if b then true else knows_in zs (MayRead l i xs)) ≡ true → (knows_in zs (MayRead l i xs) ≡ true → IsFor k l false i xs) → IsFor k l false i xs
+    by_case : (b : Bool) → says z.level z.atom (MayRead l i xs) ≡ b → (if b then true else knows_in zs (MayRead l i xs)) ≡ true
+        → (knows_in zs (MayRead l i xs) ≡ true → IsFor k l false i xs) → IsFor k l false i xs
     by_case true e h r = deal_by k z.level z.atom l i xs s.0 e
     by_case false e h r = r h
 
 one_deal : (a b : Deal) → Some a ≡ Some b → a ≡ b
 one_deal a b e = cc
 
-reads_one : (k : Known) (b : Level) (x : Atom) (l : ℤ) (i : ℕ) (xs : List ℤ) (p : ℕ) → Says k x → IsFor k l false i xs → 1 ≤ (if same_level b AtPlain then asked x (Permission l p) else 0) → says b x (MayRead l i xs) ≡ true
+reads_one : (k : Known) (b : Level) (x : Atom) (l : ℤ) (i : ℕ) (xs : List ℤ) (p : ℕ) → Says k x → IsFor k l false i xs
+    → 1 ≤ (if same_level b AtPlain then asked x (Permission l p) else 0) → says b x (MayRead l i xs) ≡ true
 reads_one k AtPlain (Acq c j ys q out) l i xs p s d h =
     let e = only_some (Permission c q) (Permission l p) 1 h in
     let f : c ≡ l = cc in
@@ -257,7 +261,8 @@ reads_one k b (Tok c n) l i xs p s d h = absurd (let z = none_at (same_level b A
 reads_one k b (Auth c n) l i xs p s d h = absurd (let z = none_at (same_level b AtPlain) 0 refl in omega (arith, z, h))
 
 -- who has a permission has the leave to read beside it
-pub reads_known : (k : Known) (zs : List Piece) (l : ℤ) (i : ℕ) (xs : List ℤ) (p : ℕ) → EachOf (SaysPiece k) zs → IsFor k l false i xs → 1 ≤ demand_at AtPlain zs (Permission l p) → knows_in zs (MayRead l i xs) ≡ true
+pub reads_known : (k : Known) (zs : List Piece) (l : ℤ) (i : ℕ) (xs : List ℤ) (p : ℕ) → EachOf (SaysPiece k) zs → IsFor k l false i xs
+    → 1 ≤ demand_at AtPlain zs (Permission l p) → knows_in zs (MayRead l i xs) ≡ true
 reads_known k [] l i xs p s d h = absurd (let z : 1 ≤ 0 = h in omega arith)
 reads_known k (z ∷ zs) l i xs p s d h = elim (none_or_some (asked_at AtPlain z (Permission l p))) [
   | inl n ↦ last (says z.level z.atom (MayRead l i xs)) (reads_known k zs l i xs p s.1 d (omega (arith, n, h)))

@@ -50,7 +50,8 @@ each_part f P Q t a (Tok b n) m zs p q = (t a (Tok b n) m tt p, q)
 each_part f P Q t a (Auth b n) zero zs p q = q
 each_part f P Q t a (Auth b n) (suc m) zs p q = (t a (Auth b n) (suc m) tt p, q)
 
-part_if_each : (c : Bool) (f : Values) (Q : Piece → Type 0) (x : Piece) (m : ℕ) (zs : List Piece) → (c ≡ true → EachOf Q zs → EachOf Q (part f x.level x.atom m zs)) → EachOf Q zs → EachOf Q (part_if c f x m zs)
+part_if_each : (c : Bool) (f : Values) (Q : Piece → Type 0) (x : Piece) (m : ℕ) (zs : List Piece)
+    → (c ≡ true → EachOf Q zs → EachOf Q (part f x.level x.atom m zs)) → EachOf Q zs → EachOf Q (part_if c f x m zs)
 part_if_each true f Q x m zs p q = p refl q
 part_if_each false f Q x m zs p q = q
 
@@ -114,13 +115,19 @@ right_by : (g : Graph) (done : List ℕ) (k : Known) (t : ℕ) (xs : List Piece)
 right_by g done k t [] p = tt
 right_by g done k t (x ∷ xs) p = (p.0, right_by g done k t xs p.1)
 
-pub given_right : (f : Values) (g : Graph) (done : List ℕ) (k : Known) (t : ℕ) → AreKnown f k → (a : Level) (d : Heap) (xs : List Piece) → RightPieces g done k t xs → RightPieces g done k t (given f a d xs)
-given_right f g done k t q a d xs p =
-    right_by g done k t (given f a d xs) (given_each f (RightPiece g done k t) (RightPiece g done k t) (λ b x m s i. right_part f g done k (holder_of t b) q x m s i) a d xs (each_right g done k t xs p))
+-- parts of what is right are right
+right_turn : (f : Values) (g : Graph) (done : List ℕ) (k : Known) (t : ℕ) → AreKnown f k → Turns f (RightPiece g done k t) (RightPiece g done k t)
+right_turn f g done k t q a x m s p = right_part f g done k (holder_of t a) q x m s p
 
-pub rest_right : (f : Values) (g : Graph) (done : List ℕ) (k : Known) (t : ℕ) → AreKnown f k → (a : Level) (d : Heap) (xs : List Piece) → RightPieces g done k t xs → RightPieces g done k t (rest f a d xs)
+pub given_right : (f : Values) (g : Graph) (done : List ℕ) (k : Known) (t : ℕ) → AreKnown f k → (a : Level) (d : Heap) (xs : List Piece)
+    → RightPieces g done k t xs → RightPieces g done k t (given f a d xs)
+given_right f g done k t q a d xs p =
+    right_by g done k t (given f a d xs) (given_each f (RightPiece g done k t) (RightPiece g done k t) (right_turn f g done k t q) a d xs (each_right g done k t xs p))
+
+pub rest_right : (f : Values) (g : Graph) (done : List ℕ) (k : Known) (t : ℕ) → AreKnown f k → (a : Level) (d : Heap) (xs : List Piece)
+    → RightPieces g done k t xs → RightPieces g done k t (rest f a d xs)
 rest_right f g done k t q a d xs p =
-    right_by g done k t (rest f a d xs) (rest_each f (RightPiece g done k t) (RightPiece g done k t) (λ b x m s i. right_part f g done k (holder_of t b) q x m s i) a d xs (each_right g done k t xs p))
+    right_by g done k t (rest f a d xs) (rest_each f (RightPiece g done k t) (RightPiece g done k t) (right_turn f g done k t q) a d xs (each_right g done k t xs p))
 
 pub says_turn : (f : Values) (k : Known) → AreKnown f k → Turns f (SaysPiece k) (SaysPiece k)
 says_turn f k q a x m s p = says_part f k q x m s p
@@ -274,7 +281,8 @@ placed_by a b (RmwAcq k i xs) (MayUpdate l j ys) q e h = sym (is_at_same b AtPla
 placed_by a b (Acq k i xs o out) (MayRead l j ys) q e h = elim q [ ]
 placed_by a b x c q e h = absurd (let f : false ≡ true = h in cc)
 
-given_also : (t : Bool) (f : Values) (x : Piece) (m : ℕ) (zs : List Piece) (c : Claim) (k b : Bool) → IsLasting c → says x.level x.atom c ≡ b → (b ≡ true → t ≡ true) → (k ≡ true → knows_in zs c ≡ true)
+given_also : (t : Bool) (f : Values) (x : Piece) (m : ℕ) (zs : List Piece) (c : Claim) (k b : Bool)
+    → IsLasting c → says x.level x.atom c ≡ b → (b ≡ true → t ≡ true) → (k ≡ true → knows_in zs c ≡ true)
     → or_known b k ≡ true → knows_in (part_if t f x m zs) c ≡ true
 given_also true f x m zs c k b q e p r h = part_also f x.level x.atom m zs c k b q e r h
 given_also false f x m zs c k true q e p r h = absurd (let z = p refl in cc)
