@@ -13,6 +13,7 @@ use Rattle.fsl_own.proofs.Totals.{none_or_some, only_here, only_elsewhere, only_
 use Rattle.fsl_good.specs.Pieces.{Level, AtPlain, AtUp, AtDown, same_level, Piece, asked_at, demand_at, IsPossible}
 use Rattle.fsl_held.specs.Heaps.{heap_of, truth_of, is_at, same_numbers, same_leave, says, knows_in, or_else, or_this, value_by, value_in, out_by, out_in, count_by, count_in, bank_in}
 use Rattle.fsl_held.proofs.Cuts.{Values}
+use Rattle.fsl_held.proofs.Heaps.{Speaks, out_speaks, count_speaks}
 use Rattle.fsl_held.proofs.Given.{EachOf, Turns, SaysPiece, each_says}
 
 -- ---- a resource of which pieces say something
@@ -35,14 +36,6 @@ told {X = X} say look is r v a (x ∷ xs) p l = is x xs ∙ elim p.0 [
 ]
 
 -- ---- resources of which there is one alone
-
-record SaysOne {X : Type 0} (say : Atom → Option X) (r : Resource) (x : Atom) : Type 0 where
-  what : X
-  is : say x ≡ Some what
-  has : 1 ≤ asked x r
-
-abbrev Speaks : {X : Type 0} → (Atom → Option X) → Resource → Type 0
-Speaks say r = (x : Atom) → SaysOne say r x ⊎ ((say x ≡ None) × (asked x r ≡ 0))
 
 -- at all levels
 abbrev in_all : List Piece → Heap
@@ -77,47 +70,6 @@ sole say r s (x ∷ xs) l h =
       | inl o ↦ let n = o.has in (o.what, (inl o.is, silent say r s o.what xs (omega (arith, m, n, l))))
       | inr z ↦ let n = z.1 in let t = sole say r s xs (omega (arith, m, n, l)) (omega (arith, m, n, h)) in (t.0, (inr z, t.1))
     ]
-
--- ---- permissions and authorities
-
-out_speaks : (l : ℤ) (p : ℕ) → Speaks (λ x. out_by x l p) (Permission l p)
-out_speaks l p (Acq c inv args q out) = elim (cases_Bool (int_eq l c && p == q)) [
-  | inl t ↦
-      let i = and_parts (int_eq l c) (p == q) t in
-      let e : l ≡ c = equal l c i.0 in
-      let f : p ≡ q = eqb-true p q i.1 in
-      let same : Permission c q ≡ Permission l p = λ j. Permission (sym e j) (sym f j) in
-      let has : only (Permission c q) 1 (Permission l p) ≡ 1 = subst (λ (r : Resource). only (Permission c q) 1 r ≡ 1) same (only_here (Permission c q) 1) in
-      inl (record { what = out; is = rw t refl; has = omega (arith, has) })
-  | inr t ↦ inr (
-    rw t refl,
-    only_elsewhere (Permission c q) (Permission l p) 1 (λ e. absurd (
-        let f : l ≡ c = cc in
-        let g : p ≡ q = cc in
-        let j : (int_eq l c && p == q) ≡ true = and_from (int_eq l c) (p == q) (is_equal l c f) (eq-eqb p q g) in
-        cc)),
-  )
-]
-out_speaks l p (Points c n v) = inr (refl, refl)
-out_speaks l p (Init c) = inr (refl, refl)
-out_speaks l p (Rel c inv args) = inr (refl, refl)
-out_speaks l p (RmwAcq c inv args) = inr (refl, refl)
-out_speaks l p (Tok b n) = inr (refl, refl)
-out_speaks l p (Auth b n) = inr (refl, refl)
-
-count_speaks : (b : ℕ) → Speaks (λ x. count_by x b) (Bank b)
-count_speaks b (Auth c n) = elim (cases_Bool (b == c)) [
-  | inl t ↦
-      let has : only (Bank c) 1 (Bank b) ≡ 1 = subst (λ (r : Resource). only (Bank c) 1 r ≡ 1) (ap Bank (sym (eqb-true b c t))) (only_here (Bank c) 1) in
-      inl (record { what = n; is = rw t refl; has = omega (arith, has) })
-  | inr t ↦ inr (rw t refl, only_elsewhere (Bank c) (Bank b) 1 (λ e. absurd (let f : b ≡ c = cc in let j : (b == c) ≡ true = eq-eqb b c f in cc)))
-]
-count_speaks b (Points c n v) = inr (refl, refl)
-count_speaks b (Init c) = inr (refl, refl)
-count_speaks b (Rel c inv args) = inr (refl, refl)
-count_speaks b (Acq c inv args q out) = inr (refl, refl)
-count_speaks b (RmwAcq c inv args) = inr (refl, refl)
-count_speaks b (Tok c n) = inr (refl, refl)
 
 -- ---- parts say what was said
 

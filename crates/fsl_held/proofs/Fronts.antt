@@ -7,14 +7,14 @@ use Rattle.fsl_good.specs.Pieces.{Level, AtPlain, AtUp, AtDown, Piece, demand_at
 use Rattle.fsl_good.proofs.Pieces.{demand_more}
 use Rattle.fsl_held.specs.Heaps.{heap_of, or_this, value_by, value_in, out_by, out_in, count_by, count_in, tokens_at, bank_in, truth_of, Kept}
 use Rattle.fsl_held.specs.Laws.{FrontIsKept}
-use Rattle.fsl_held.proofs.Heaps.{heap_more, knows_front, knows_behind, first, value_first, out_first, count_first, first_front, first_behind, Speaks, first_there, first_none, speaks_out, speaks_count, no_share, value_said}
+use Rattle.fsl_held.proofs.Heaps.{heap_more, knows_front, knows_behind, first, value_first, out_first, count_first, first_front, first_behind, Speaks, first_there, first_none, out_speaks, count_speaks, no_share, value_said}
 
 -- ---- what is said once
 
 -- who has a resource that one piece alone has says the same in front of others
-once_front : {X : Type 0} (r : Resource) (f : Atom → Option X) (z : X) → Speaks r f → (xs ys : List Piece) → 1 ≤ demand_at AtPlain xs r → or_this (first f (xs ++ ys)) z ≡ or_this (first f xs) z
-once_front r f z s xs ys h =
-    let t = first_there r f s AtPlain xs h in
+once_front : {X : Type 0} (f : Atom → Option X) (r : Resource) (z : X) → Speaks f r → (xs ys : List Piece) → 1 ≤ demand_at AtPlain xs r → or_this (first f (xs ++ ys)) z ≡ or_this (first f xs) z
+once_front f r z s xs ys h =
+    let t = first_there f r s AtPlain xs h in
     ap (λ o. or_this o z) (first_front f xs ys t.0 t.1) ∙ sym (ap (λ o. or_this o z) t.1)
 
 none_of : (a b c d e f : ℕ) → (a + d) + ((b + e) + (c + f)) ≤ 1 → 1 ≤ d → (a ≡ 0) × (b ≡ 0) × (c ≡ 0)
@@ -36,9 +36,9 @@ none_before xs ys r h i =
     each t AtDown = t.2
 
 -- nor do they say anything of it
-once_behind : {X : Type 0} (r : Resource) (f : Atom → Option X) → Speaks r f → (xs ys : List Piece)
+once_behind : {X : Type 0} (f : Atom → Option X) (r : Resource) → Speaks f r → (xs ys : List Piece)
     → demand_at AtPlain (xs ++ ys) r + (demand_at AtUp (xs ++ ys) r + demand_at AtDown (xs ++ ys) r) ≤ 1 → 1 ≤ demand_at AtPlain ys r → first f (xs ++ ys) ≡ first f ys
-once_behind r f s xs ys h i = first_behind f xs ys (first_none r f s xs (none_before xs ys r h i))
+once_behind f r s xs ys h i = first_behind f xs ys (first_none f r s xs (none_before xs ys r h i))
 
 -- ---- what those in front say
 
@@ -48,7 +48,7 @@ value_front xs ys l x e = value_first l (xs ++ ys) ∙ first_front (λ y. value_
 out_front : (xs ys : List Piece) (l : ℤ) (part : ℕ) → 1 ≤ demand_at AtPlain xs (resource.Permission l part) → or_this (out_in (xs ++ ys) l part) [] ≡ or_this (out_in xs l part) []
 out_front xs ys l part h =
     ap (λ (o : Option (List ℤ)). or_this o []) (out_first l part (xs ++ ys))
-    ∙ once_front (resource.Permission l part) (λ y. out_by y l part) [] (speaks_out l part) xs ys h
+    ∙ once_front (λ y. out_by y l part) (resource.Permission l part) [] (out_speaks l part) xs ys h
     ∙ sym (ap (λ (o : Option (List ℤ)). or_this o []) (out_first l part xs))
 
 -- where the authority is here, the tokens don't matter
@@ -57,7 +57,7 @@ this_count o p n m t e d = ap (λ z. or_this z n) (d ∙ e) ∙ sym (ap (λ z. o
 
 bank_front : (xs ys : List Piece) (b : ℤ) → 1 ≤ heap_of xs (key.Bank b) → bank_in (xs ++ ys) b ≡ bank_in xs b
 bank_front xs ys (pos b) h =
-    let t = first_there (resource.Bank b) (λ y. count_by y b) (speaks_count b) AtPlain xs h in
+    let t = first_there (λ y. count_by y b) (resource.Bank b) (count_speaks b) AtPlain xs h in
     let here : count_in xs b ≡ Some t.0 = count_first b xs ∙ t.1 in
     let there : count_in (xs ++ ys) b ≡ Some t.0 = count_first b (xs ++ ys) ∙ first_front (λ y. count_by y b) xs ys t.0 t.1 in
     ap pos (this_count (count_in (xs ++ ys) b) (count_in xs b) (tokens_at (xs ++ ys) (pos b)) (tokens_at xs (pos b)) t.0 here (there ∙ sym here))
@@ -95,14 +95,14 @@ value_behind k xs ys l x s e = by_case (value_in xs l) refl
 out_behind : (xs ys : List Piece) (l : ℤ) (part : ℕ) → IsPossible (xs ++ ys) → 1 ≤ demand_at AtPlain ys (resource.Permission l part) → or_this (out_in (xs ++ ys) l part) [] ≡ or_this (out_in ys l part) []
 out_behind xs ys l part p h =
     ap (λ (o : Option (List ℤ)). or_this o [])
-    (out_first l part (xs ++ ys) ∙ once_behind (resource.Permission l part) (λ y. out_by y l part) (speaks_out l part) xs ys (p.within (resource.Permission l part)) h ∙ sym (out_first l part ys))
+    (out_first l part (xs ++ ys) ∙ once_behind (λ y. out_by y l part) (resource.Permission l part) (out_speaks l part) xs ys (p.within (resource.Permission l part)) h ∙ sym (out_first l part ys))
 
 bank_behind : (xs ys : List Piece) (b : ℤ) → IsPossible (xs ++ ys) → 1 ≤ heap_of ys (key.Bank b) → bank_in (xs ++ ys) b ≡ bank_in ys b
 bank_behind xs ys (pos b) p h =
-    let t = first_there (resource.Bank b) (λ y. count_by y b) (speaks_count b) AtPlain ys h in
+    let t = first_there (λ y. count_by y b) (resource.Bank b) (count_speaks b) AtPlain ys h in
     let here : count_in ys b ≡ Some t.0 = count_first b ys ∙ t.1 in
     let same : count_in (xs ++ ys) b ≡ count_in ys b =
-    count_first b (xs ++ ys) ∙ once_behind (resource.Bank b) (λ y. count_by y b) (speaks_count b) xs ys (p.within (resource.Bank b)) h ∙ sym (count_first b ys) in
+    count_first b (xs ++ ys) ∙ once_behind (λ y. count_by y b) (resource.Bank b) (count_speaks b) xs ys (p.within (resource.Bank b)) h ∙ sym (count_first b ys) in
     ap pos (this_count (count_in (xs ++ ys) b) (count_in ys b) (tokens_at (xs ++ ys) (pos b)) (tokens_at ys (pos b)) t.0 here same)
 bank_behind xs ys (negsuc b) p h = absurd (no_share h)
 

@@ -16,6 +16,7 @@ use Rattle.fsl_own.proofs.Totals.{none_or_some, only_some}
 use Rattle.fsl_good.specs.Pieces.{Level, AtPlain, AtUp, AtDown, same_level, holder_of, Piece, level_at, placed, all_placed, demand_at, RightPieces, AllSay}
 use Rattle.fsl_held.specs.Heaps.{is_at, same_leave, says, knows_in, value_by, value_in, or_else}
 use Rattle.fsl_held.specs.Parts.{rung_of, is_claim_at}
+use Rattle.fsl_held.proofs.Heaps.{value_said}
 use Rattle.fsl_held.proofs.Cuts.{kind_of, size, level_of, level_is, Values, sized, part, part_if, is_placed, take_of, less, given, rest, asked_is}
 
 -- ---- each piece
@@ -133,24 +134,8 @@ pub says_turn : (f : Values) (k : Known) → AreKnown f k → Turns f (SaysPiece
 says_turn f k q a x m s p = says_part f k q x m s p
 
 -- what a list says of a cell is known
-said_by : (k : Known) (c l v : ℤ) (o p : Option ℤ) (n : ℕ) (b : Bool) → int_eq l c ≡ b → Says k (Points c n o) → (p ≡ Some v → k.values l ≡ Some v)
-    → or_else (if b then o else None) p ≡ Some v → k.values l ≡ Some v
-said_by k c l v None p n true e s q h = q h
-said_by k c l v (Some w) p n true e s q h = let i : l ≡ c = equal l c e in let j : k.values c ≡ Some w = s.1 in ap k.values i ∙ (j ∙ h)
-said_by k c l v o p n false e s q h = q h
-
 pub values_known : (k : Known) (xs : List Piece) → AllSay k xs → AreKnown (value_in xs) k
-values_known k [] s l v h = absurd (let e : None ≡ Some v = h in cc)
-values_known k (x ∷ xs) s l v h = by_atom x.atom s.0 (values_known k xs s.1 l v) h
-  where
-    by_atom : (y : Atom) → Says k y → (value_in xs l ≡ Some v → k.values l ≡ Some v) → or_else (value_by y l) (value_in xs l) ≡ Some v → k.values l ≡ Some v
-    by_atom (Points c n o) p q h = said_by k c l v o (value_in xs l) n (int_eq l c) refl p q h
-    by_atom (Init c) p q h = q h
-    by_atom (Rel c inv args) p q h = q h
-    by_atom (Acq c inv args o out) p q h = q h
-    by_atom (RmwAcq c inv args) p q h = q h
-    by_atom (Tok b n) p q h = q h
-    by_atom (Auth b n) p q h = q h
+values_known k xs s l v h = value_said k l v xs s h
 
 -- ---- where it stands
 

@@ -1,13 +1,13 @@
 -- The heap of a list, and what its first pieces say: of lists one behind the other, and against what is known.
-use Rattle.std.proofs.Common.{◌≡◌, ◌⊎◌, inl, inr, ℕ, zero, suc, ◌+◌, ◌≤◌, ◌==◌, Bool, true, false, ◌&&◌, List, [], ◌∷◌, ◌++◌, Option, Some, None, ℤ, pos, negsuc, if◌then◌else◌, refl, ap, subst, ◌∙◌, arith}
+use Rattle.std.proofs.Common.{◌≡◌, ◌⊎◌, inl, inr, ℕ, zero, suc, ◌+◌, ◌≤◌, ◌==◌, Bool, true, false, ◌&&◌, List, [], ◌∷◌, ◌++◌, Option, Some, None, ℤ, pos, negsuc, if◌then◌else◌, refl, ap, sym, subst, ◌∙◌, arith}
 use Rattle.std.specs.Ordering.{int_eq}
-use Rattle.std.proofs.lemmas.Bool.{and_parts, and_from, eqb-true, eq-eqb}
+use Rattle.std.proofs.lemmas.Bool.{cases_Bool, and_parts, and_from, eqb-true, eq-eqb}
 use Rattle.fsl_core.specs.declared.mode.Rung.TheVariants.{Plain, Up, Down, Msg}
 use Rattle.fsl_meaning.specs.Heaps.{Key, Key as key, Claim, Knows}
 use Rattle.fsl_meaning.proofs.Deciding.{equal, is_equal}
 use Rattle.fsl_own.specs.Owning.{Resource, Permission, Bank, only, Known}
 use Rattle.fsl_own.specs.Atoms.{Atom, Points, Init, Rel, Acq, RmwAcq, Tok, Auth, asked, Says}
-use Rattle.fsl_own.proofs.Totals.{only_here, only_some}
+use Rattle.fsl_own.proofs.Totals.{only_here, only_elsewhere}
 use Rattle.fsl_good.specs.Pieces.{Level, AtPlain, AtUp, AtDown, same_level, Piece, asked_at, demand_at, AllSay}
 use Rattle.fsl_good.proofs.Pieces.{demand_more}
 use Rattle.fsl_held.specs.Heaps.{heap_of, or_else, value_by, value_in, out_by, out_in, count_by, count_in, says, knows_in, ground_of}
@@ -83,11 +83,15 @@ first_behind {X = X} f (x ∷ xs) ys h = by_case (f x.atom) h (first_behind f xs
     by_case None h r = r h
     by_case (Some w) h r = absurd (let e : Some w ≡ None = h in cc)
 
--- ---- resources that one piece alone has: who has it says something of it, and nobody else does
+-- ---- resources that one piece alone has: who has some of it says something, and nobody else does
 
-pub record Speaks {X : Type 0} (r : Resource) (f : Atom → Option X) : Type 0 where
-  pub there : (y : Atom) → 1 ≤ asked y r → (z : X) × (f y ≡ Some z)
-  pub none : (y : Atom) → asked y r ≡ 0 → f y ≡ None
+pub record SaysOne {X : Type 0} (say : Atom → Option X) (r : Resource) (x : Atom) : Type 0 where
+  pub what : X
+  pub is : say x ≡ Some what
+  pub has : 1 ≤ asked x r
+
+abbrev pub Speaks : {X : Type 0} → (Atom → Option X) → Resource → Type 0
+Speaks say r = (x : Atom) → SaysOne say r x ⊎ ((say x ≡ None) × (asked x r ≡ 0))
 
 split : (b : Bool) (n m : ℕ) → 1 ≤ (if b then n else 0) + m → (1 ≤ n) ⊎ (1 ≤ m)
 split true zero m h = inr (omega arith)
@@ -98,11 +102,17 @@ or_some : {X : Type 0} (o p : Option X) → (z : X) × (p ≡ Some z) → (z : X
 or_some None p h = h
 or_some (Some w) p h = (w, refl)
 
-pub first_there : {X : Type 0} (r : Resource) (f : Atom → Option X) → Speaks r f → (a : Level) (xs : List Piece) → 1 ≤ demand_at a xs r → (z : X) × (first f xs ≡ Some z)
-first_there r f s a [] h = absurd (let z : 1 ≤ 0 = h in omega arith)
-first_there r f s a (x ∷ xs) h = elim (split (same_level x.level a) (asked x.atom r) (demand_at a xs r) h) [
-  | inl i ↦ let t = s.there x.atom i in (t.0, ap (λ o. or_else o (first f xs)) t.1)
-  | inr i ↦ or_some (f x.atom) (first f xs) (first_there r f s a xs i)
+pub no_share : 1 ≤ 0 → ⊥
+no_share h = omega arith
+
+pub first_there : {X : Type 0} (say : Atom → Option X) (r : Resource) → Speaks say r → (a : Level) (xs : List Piece) → 1 ≤ demand_at a xs r → (z : X) × (first say xs ≡ Some z)
+first_there say r s a [] h = absurd (no_share h)
+first_there say r s a (x ∷ xs) h = elim (s x.atom) [
+  | inl o ↦ (o.what, ap (λ p. or_else p (first say xs)) o.is)
+  | inr z ↦ elim (split (same_level x.level a) (asked x.atom r) (demand_at a xs r) h) [
+    | inl i ↦ absurd (let e = z.1 in omega (arith, e, i))
+    | inr i ↦ or_some (say x.atom) (first say xs) (first_there say r s a xs i)
+  ]
 ]
 
 head_none : (b : Bool) (n m : ℕ) → b ≡ true → (if b then n else 0) + m ≡ 0 → n ≡ 0
@@ -112,88 +122,55 @@ head_none false n m e h = absurd (cc)
 tail_none : (n m : ℕ) → n + m ≡ 0 → m ≡ 0
 tail_none n m h = omega arith
 
-pub first_none : {X : Type 0} (r : Resource) (f : Atom → Option X) → Speaks r f → (xs : List Piece) → ((a : Level) → demand_at a xs r ≡ 0) → first f xs ≡ None
-first_none r f s [] h = refl
-first_none r f s (x ∷ xs) h =
-    let n : asked x.atom r ≡ 0 = head_none (same_level x.level x.level) (asked x.atom r) (demand_at x.level xs r) (same_level_self x.level) (h x.level) in
-    ap (λ o. or_else o (first f xs)) (s.none x.atom n) ∙ first_none r f s xs (λ a. tail_none (asked_at a x r) (demand_at a xs r) (h a))
+pub first_none : {X : Type 0} (say : Atom → Option X) (r : Resource) → Speaks say r → (xs : List Piece) → ((a : Level) → demand_at a xs r ≡ 0) → first say xs ≡ None
+first_none say r s [] h = refl
+first_none say r s (x ∷ xs) h = elim (s x.atom) [
+  | inl o ↦
+      let n : asked x.atom r ≡ 0 = head_none (same_level x.level x.level) (asked x.atom r) (demand_at x.level xs r) (same_level_self x.level) (h x.level) in
+      absurd (let m = o.has in omega (arith, n, m))
+  | inr z ↦ ap (λ p. or_else p (first say xs)) z.0 ∙ first_none say r s xs (λ a. tail_none (asked_at a x r) (demand_at a xs r) (h a))
+]
 
-same_part : (l : ℤ) (p : ℕ) → int_eq l l && p == p ≡ true
-same_part l p = and_from (int_eq l l) (p == p) (is_equal l l refl) (eq-eqb p p refl)
+-- ---- permissions and authorities
 
-if_this : {X : Type 0} (b : Bool) (z : X) → b ≡ true → (if b then Some z else None) ≡ Some z
-if_this true z e = refl
-if_this false z e = absurd (cc)
+pub out_speaks : (l : ℤ) (p : ℕ) → Speaks (λ x. out_by x l p) (Permission l p)
+out_speaks l p (Acq c inv args q out) = elim (cases_Bool (int_eq l c && p == q)) [
+  | inl t ↦
+      let i = and_parts (int_eq l c) (p == q) t in
+      let e : l ≡ c = equal l c i.0 in
+      let f : p ≡ q = eqb-true p q i.1 in
+      let same : Permission c q ≡ Permission l p = λ j. Permission (sym e j) (sym f j) in
+      let has : only (Permission c q) 1 (Permission l p) ≡ 1 = subst (λ (r : Resource). only (Permission c q) 1 r ≡ 1) same (only_here (Permission c q) 1) in
+      inl (record { what = out; is = rw t refl; has = omega (arith, has) })
+  | inr t ↦ inr (
+    rw t refl,
+    only_elsewhere (Permission c q) (Permission l p) 1 (λ e. absurd (
+        let f : l ≡ c = cc in
+        let g : p ≡ q = cc in
+        let j : (int_eq l c && p == q) ≡ true = and_from (int_eq l c) (p == q) (is_equal l c f) (eq-eqb p q g) in
+        cc)),
+  )
+]
+out_speaks l p (Points c n v) = inr (refl, refl)
+out_speaks l p (Init c) = inr (refl, refl)
+out_speaks l p (Rel c inv args) = inr (refl, refl)
+out_speaks l p (RmwAcq c inv args) = inr (refl, refl)
+out_speaks l p (Tok b n) = inr (refl, refl)
+out_speaks l p (Auth b n) = inr (refl, refl)
 
-pub no_share : 1 ≤ 0 → ⊥
-no_share h = omega arith
-
-pub speaks_out : (l : ℤ) (part : ℕ) → Speaks (Permission l part) (λ y. out_by y l part)
-speaks_out l part = record { there = there; none = none }
-  where
-    there : (y : Atom) → 1 ≤ asked y (Permission l part) → (z : List ℤ) × (out_by y l part ≡ Some z)
-    there (Points c n v) h = absurd (no_share h)
-    there (Init c) h = absurd (no_share h)
-    there (Rel c i xs) h = absurd (no_share h)
-    there (Acq c i xs q out) h =
-        let e : Permission c q ≡ Permission l part = only_some (Permission c q) (Permission l part) 1 h in
-        let d : l ≡ c = cc in
-        let f : part ≡ q = cc in
-        (out, if_this (int_eq l c && part == q) out (and_from (int_eq l c) (part == q) (is_equal l c d) (eq-eqb part q f)))
-    there (RmwAcq c i xs) h = absurd (no_share h)
-    there (Tok c n) h = absurd (no_share h)
-    there (Auth c n) h = absurd (no_share h)
-
-    by_case : (c : ℤ) (q : ℕ) (out : List ℤ) (b : Bool) → int_eq l c && part == q ≡ b → only (Permission c q) 1 (Permission l part) ≡ 0 → (if b then Some out else None) ≡ None
-    by_case c q out true e h =
-        let p = and_parts (int_eq l c) (part == q) e in
-        let d : l ≡ c = equal l c p.0 in
-        let f : part ≡ q = eqb-true part q p.1 in
-        let g : Permission c q ≡ Permission l part = cc in
-        let one : only (Permission c q) 1 (Permission l part) ≡ 1 = subst (λ r. only (Permission c q) 1 r ≡ 1) g (only_here (Permission c q) 1) in
-        absurd (omega arith)
-    by_case c q out false e h = refl
-
-    none : (y : Atom) → asked y (Permission l part) ≡ 0 → out_by y l part ≡ None
-    none (Points c n v) h = refl
-    none (Init c) h = refl
-    none (Rel c i xs) h = refl
-    none (Acq c i xs q out) h = by_case c q out (int_eq l c && part == q) refl h
-    none (RmwAcq c i xs) h = refl
-    none (Tok c n) h = refl
-    none (Auth c n) h = refl
-
-pub speaks_count : (b : ℕ) → Speaks (Bank b) (λ y. count_by y b)
-speaks_count b = record { there = there; none = none }
-  where
-    there : (y : Atom) → 1 ≤ asked y (Bank b) → (z : ℕ) × (count_by y b ≡ Some z)
-    there (Points c n v) h = absurd (no_share h)
-    there (Init c) h = absurd (no_share h)
-    there (Rel c i xs) h = absurd (no_share h)
-    there (Acq c i xs q out) h = absurd (no_share h)
-    there (RmwAcq c i xs) h = absurd (no_share h)
-    there (Tok c n) h = absurd (no_share h)
-    there (Auth c n) h =
-        let e : Bank c ≡ Bank b = only_some (Bank c) (Bank b) 1 h in
-        let d : b ≡ c = cc in
-        (n, if_this (b == c) n (eq-eqb b c d))
-
-    by_case : (c n : ℕ) (t : Bool) → (b == c) ≡ t → only (Bank c) 1 (Bank b) ≡ 0 → (if t then Some n else None) ≡ None
-    by_case c n true e h =
-        let d : b ≡ c = eqb-true b c e in
-        let g : Bank c ≡ Bank b = cc in
-        let one : only (Bank c) 1 (Bank b) ≡ 1 = subst (λ r. only (Bank c) 1 r ≡ 1) g (only_here (Bank c) 1) in
-        absurd (omega arith)
-    by_case c n false e h = refl
-
-    none : (y : Atom) → asked y (Bank b) ≡ 0 → count_by y b ≡ None
-    none (Points c n v) h = refl
-    none (Init c) h = refl
-    none (Rel c i xs) h = refl
-    none (Acq c i xs q out) h = refl
-    none (RmwAcq c i xs) h = refl
-    none (Tok c n) h = refl
-    none (Auth c n) h = by_case c n (b == c) refl h
+pub count_speaks : (b : ℕ) → Speaks (λ x. count_by x b) (Bank b)
+count_speaks b (Auth c n) = elim (cases_Bool (b == c)) [
+  | inl t ↦
+      let has : only (Bank c) 1 (Bank b) ≡ 1 = subst (λ (r : Resource). only (Bank c) 1 r ≡ 1) (ap Bank (sym (eqb-true b c t))) (only_here (Bank c) 1) in
+      inl (record { what = n; is = rw t refl; has = omega (arith, has) })
+  | inr t ↦ inr (rw t refl, only_elsewhere (Bank c) (Bank b) 1 (λ e. absurd (let f : b ≡ c = cc in let j : (b == c) ≡ true = eq-eqb b c f in cc)))
+]
+count_speaks b (Points c n v) = inr (refl, refl)
+count_speaks b (Init c) = inr (refl, refl)
+count_speaks b (Rel c inv args) = inr (refl, refl)
+count_speaks b (Acq c inv args q out) = inr (refl, refl)
+count_speaks b (RmwAcq c inv args) = inr (refl, refl)
+count_speaks b (Tok c n) = inr (refl, refl)
 
 -- ---- what pieces say is known
 
