@@ -36,7 +36,9 @@ bank_more xs p b = by_case (count_in xs b) refl
 
 pub heap_is_bounded : HeapIsBounded
 heap_is_bounded xs p = record {
-  cells = λ l. line_three (demand_at AtPlain xs (resource.Cell l)) (demand_at AtUp xs (resource.Cell l)) (demand_at AtDown xs (resource.Cell l)) (limit p.known (resource.Cell l)) (p.within (resource.Cell l));
+  cells = λ l.
+      let r = resource.Cell l in
+      line_three (demand_at AtPlain xs r) (demand_at AtUp xs r) (demand_at AtDown xs r) (limit p.known r) (p.within r);
   tokens = tokens;
   alone = alone;
   once = λ l part. plain_within xs p (resource.Permission l part);

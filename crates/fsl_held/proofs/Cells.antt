@@ -170,43 +170,48 @@ without_kept c xs = record { knows = record { more = λ q n k. without_knows c q
 line_same : (n m : ℕ) → n ≡ m → m ≡ n + 0
 line_same n m e = omega arith
 
-line_all : (n u d m : ℕ) → n ≡ 0 → full ≤ m → m + (u + d) ≤ full → m ≡ n + full
-line_all n u d m e h l = omega arith
+abbrev shares_at : Level → List Piece → ℤ → ℕ
+shares_at a xs l = demand_at a xs (resource.Cell l)
 
-line_up : (n p u d : ℕ) → n ≡ 0 → full ≤ p → p + (u + d) ≤ full → u ≡ n + 0
-line_up n p u d e h l = omega arith
+line_all : (p u d n : ℕ) → full ≤ p → p + (u + d) ≤ full → n ≡ 0 → p ≡ n + full
+line_all p u d n h l e = omega arith
 
-line_down : (n p u d : ℕ) → n ≡ 0 → full ≤ p → p + (u + d) ≤ full → d ≡ n + 0
-line_down n p u d e h l = omega arith
+line_up : (p u d n : ℕ) → full ≤ p → p + (u + d) ≤ full → n ≡ 0 → u ≡ n + 0
+line_up p u d n h l e = omega arith
 
-all_left : (c : ℤ) (xs : List Piece) → IsPossible xs → full ≤ heap_of xs (key.Cell Plain c) → (k : Key) → heap_of xs k ≡ heap_of (without c xs) k + some_of (key.Cell Plain c) full k
+line_down : (p u d n : ℕ) → full ≤ p → p + (u + d) ≤ full → n ≡ 0 → d ≡ n + 0
+line_down p u d n h l e = omega arith
+
+-- who has all shares of a cell at plain has none elsewhere, and of others as many as before
+all_left : (c : ℤ) (xs : List Piece) → IsPossible xs → full ≤ shares_at AtPlain xs c → (k : Key) → heap_of xs k ≡ heap_of (without c xs) k + some_of (key.Cell Plain c) full k
 all_left c xs p h = parts
   where
-    within : demand_at AtPlain xs (resource.Cell c) + (demand_at AtUp xs (resource.Cell c) + demand_at AtDown xs (resource.Cell c)) ≤ full
-    within = p.within (resource.Cell c)
+    most : shares_at AtPlain xs c + (shares_at AtUp xs c + shares_at AtDown xs c) ≤ full
+    most = p.within (resource.Cell c)
 
-    other : (l : ℤ) → int_eq c l ≡ false → resource.Cell c ≡ resource.Cell l → ⊥
-    other l e d = absurd (let f : c ≡ l = cc in let g = is_equal c l f in cc)
+    other : (a : Level) (l : ℤ) → int_eq c l ≡ false → shares_at a xs l ≡ shares_at a (without c xs) l + 0
+    other a l e = line_same _ _ (without_demand c a (resource.Cell l) xs (λ d. absurd (let f : c ≡ l = cc in let g = is_equal c l f in cc)))
 
-    at_plain : (l : ℤ) (b : Bool) → int_eq c l ≡ b → demand_at AtPlain xs (resource.Cell l) ≡ demand_at AtPlain (without c xs) (resource.Cell l) + (if b then full else 0)
-    at_plain l true e = subst (λ z. demand_at AtPlain xs (resource.Cell z) ≡ demand_at AtPlain (without c xs) (resource.Cell z) + full) (equal c l e)
-        (line_all (demand_at AtPlain (without c xs) (resource.Cell c)) (demand_at AtUp xs (resource.Cell c)) (demand_at AtDown xs (resource.Cell c)) (demand_at AtPlain xs (resource.Cell c)) (without_none c AtPlain xs) h within)
-    at_plain l false e = line_same _ _ (without_demand c AtPlain (resource.Cell l) xs (other l e))
+    at_plain : (l : ℤ) (b : Bool) → int_eq c l ≡ b → shares_at AtPlain xs l ≡ shares_at AtPlain (without c xs) l + (if b then full else 0)
+    at_plain l true e =
+        let all = line_all (shares_at AtPlain xs c) (shares_at AtUp xs c) (shares_at AtDown xs c) (shares_at AtPlain (without c xs) c) h most (without_none c AtPlain xs) in
+        subst (λ z. shares_at AtPlain xs z ≡ shares_at AtPlain (without c xs) z + full) (equal c l e) all
+    at_plain l false e = other AtPlain l e
 
-    at_up : (l : ℤ) (b : Bool) → int_eq c l ≡ b → demand_at AtUp xs (resource.Cell l) ≡ demand_at AtUp (without c xs) (resource.Cell l) + 0
-    at_up l true e = subst (λ z. demand_at AtUp xs (resource.Cell z) ≡ demand_at AtUp (without c xs) (resource.Cell z) + 0) (equal c l e)
-        (line_up (demand_at AtUp (without c xs) (resource.Cell c)) (demand_at AtPlain xs (resource.Cell c)) (demand_at AtUp xs (resource.Cell c)) (demand_at AtDown xs (resource.Cell c)) (without_none c AtUp xs) h within)
-    at_up l false e = line_same _ _ (without_demand c AtUp (resource.Cell l) xs (other l e))
+    elsewhere : (a : Level) (l : ℤ) (b : Bool) → int_eq c l ≡ b → shares_at a xs c ≡ shares_at a (without c xs) c + 0 → shares_at a xs l ≡ shares_at a (without c xs) l + 0
+    elsewhere a l true e none = subst (λ z. shares_at a xs z ≡ shares_at a (without c xs) z + 0) (equal c l e) none
+    elsewhere a l false e none = other a l e
 
-    at_down : (l : ℤ) (b : Bool) → int_eq c l ≡ b → demand_at AtDown xs (resource.Cell l) ≡ demand_at AtDown (without c xs) (resource.Cell l) + 0
-    at_down l true e = subst (λ z. demand_at AtDown xs (resource.Cell z) ≡ demand_at AtDown (without c xs) (resource.Cell z) + 0) (equal c l e)
-        (line_down (demand_at AtDown (without c xs) (resource.Cell c)) (demand_at AtPlain xs (resource.Cell c)) (demand_at AtUp xs (resource.Cell c)) (demand_at AtDown xs (resource.Cell c)) (without_none c AtDown xs) h within)
-    at_down l false e = line_same _ _ (without_demand c AtDown (resource.Cell l) xs (other l e))
+    at_up : shares_at AtUp xs c ≡ shares_at AtUp (without c xs) c + 0
+    at_up = line_up (shares_at AtPlain xs c) (shares_at AtUp xs c) (shares_at AtDown xs c) (shares_at AtUp (without c xs) c) h most (without_none c AtUp xs)
+
+    at_down : shares_at AtDown xs c ≡ shares_at AtDown (without c xs) c + 0
+    at_down = line_down (shares_at AtPlain xs c) (shares_at AtUp xs c) (shares_at AtDown xs c) (shares_at AtDown (without c xs) c) h most (without_none c AtDown xs)
 
     parts : (k : Key) → heap_of xs k ≡ heap_of (without c xs) k + some_of (key.Cell Plain c) full k
     parts (key.Cell Plain l) = at_plain l (int_eq c l) refl
-    parts (key.Cell Up l) = at_up l (int_eq c l) refl
-    parts (key.Cell Down l) = at_down l (int_eq c l) refl
+    parts (key.Cell Up l) = elsewhere AtUp l (int_eq c l) refl at_up
+    parts (key.Cell Down l) = elsewhere AtDown l (int_eq c l) refl at_down
     parts (key.Cell Msg l) = refl
     parts (key.Permission l part) = line_same _ _ (without_demand c AtPlain (resource.Permission l part) xs (λ e. absurd (cc)))
     parts (key.Tokens (pos b)) = line_same _ _ (without_demand c AtPlain (resource.Tokens b) xs (λ e. absurd (cc)))
@@ -227,21 +232,24 @@ line_less m k e = omega arith
 line_equal : (m k : ℕ) → m ≡ k → 0 + m ≤ k
 line_equal m k e = omega arith
 
-taken_enough : (c : ℤ) (xs : List Piece) (n : ℕ) (v : Option ℤ) → n ≤ demand_at AtPlain xs (resource.Cell c) → (a : Level) (r : Resource) → demand_at a (plain (Points c n v) ∷ without c xs) r ≤ demand_at a xs r
+taken_enough : (c : ℤ) (xs : List Piece) (n : ℕ) (v : Option ℤ) → n ≤ shares_at AtPlain xs c → (a : Level) (r : Resource)
+    → demand_at a (plain (Points c n v) ∷ without c xs) r ≤ demand_at a xs r
 taken_enough c xs n v h a r = elim (same_resource (resource.Cell c) r) [
   | inl e ↦ subst (λ z. demand_at a (plain (Points c n v) ∷ without c xs) z ≤ demand_at a xs z) e (here a)
   | inr f ↦ there a f
 ]
   where
-    here : (a : Level) → demand_at a (plain (Points c n v) ∷ without c xs) (resource.Cell c) ≤ demand_at a xs (resource.Cell c)
+    here : (a : Level) → demand_at a (plain (Points c n v) ∷ without c xs) (resource.Cell c) ≤ shares_at a xs c
     here AtPlain =
-        let l : only (resource.Cell c) n (resource.Cell c) ≤ demand_at AtPlain xs (resource.Cell c) = subst (λ m. m ≤ demand_at AtPlain xs (resource.Cell c)) (sym (only_here (resource.Cell c) n)) h in
-        line_most (only (resource.Cell c) n (resource.Cell c)) (demand_at AtPlain (without c xs) (resource.Cell c)) (demand_at AtPlain xs (resource.Cell c)) (without_none c AtPlain xs) l
-    here AtUp = line_less (demand_at AtUp (without c xs) (resource.Cell c)) (demand_at AtUp xs (resource.Cell c)) (without_none c AtUp xs)
-    here AtDown = line_less (demand_at AtDown (without c xs) (resource.Cell c)) (demand_at AtDown xs (resource.Cell c)) (without_none c AtDown xs)
+        let l : only (resource.Cell c) n (resource.Cell c) ≤ shares_at AtPlain xs c = subst (λ m. m ≤ shares_at AtPlain xs c) (sym (only_here (resource.Cell c) n)) h in
+        line_most (only (resource.Cell c) n (resource.Cell c)) (shares_at AtPlain (without c xs) c) (shares_at AtPlain xs c) (without_none c AtPlain xs) l
+    here AtUp = line_less (shares_at AtUp (without c xs) c) (shares_at AtUp xs c) (without_none c AtUp xs)
+    here AtDown = line_less (shares_at AtDown (without c xs) c) (shares_at AtDown xs c) (without_none c AtDown xs)
 
     there : (a : Level) → (resource.Cell c ≡ r → ⊥) → demand_at a (plain (Points c n v) ∷ without c xs) r ≤ demand_at a xs r
-    there AtPlain f = line_none (only (resource.Cell c) n r) (demand_at AtPlain (without c xs) r) (demand_at AtPlain xs r) (only_elsewhere (resource.Cell c) r n f) (without_demand c AtPlain r xs f)
+    there AtPlain f =
+        let none = only_elsewhere (resource.Cell c) r n f in
+        line_none (only (resource.Cell c) n r) (demand_at AtPlain (without c xs) r) (demand_at AtPlain xs r) none (without_demand c AtPlain r xs f)
     there AtUp f = line_equal (demand_at AtUp (without c xs) r) (demand_at AtUp xs r) (without_demand c AtUp r xs f)
     there AtDown f = line_equal (demand_at AtDown (without c xs) r) (demand_at AtDown xs r) (without_demand c AtDown r xs f)
 

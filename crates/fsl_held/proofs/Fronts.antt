@@ -92,7 +92,8 @@ value_behind k xs ys l x s e = by_case (value_in xs l) refl
         let other : k.values l ≡ Some x = value_said k l x ys (say_behind k xs ys s) e in
         both ∙ sym one ∙ other
 
-out_behind : (xs ys : List Piece) (l : ℤ) (part : ℕ) → IsPossible (xs ++ ys) → 1 ≤ demand_at AtPlain ys (resource.Permission l part) → or_this (out_in (xs ++ ys) l part) [] ≡ or_this (out_in ys l part) []
+out_behind : (xs ys : List Piece) (l : ℤ) (part : ℕ) → IsPossible (xs ++ ys) → 1 ≤ demand_at AtPlain ys (resource.Permission l part)
+    → or_this (out_in (xs ++ ys) l part) [] ≡ or_this (out_in ys l part) []
 out_behind xs ys l part p h =
     ap (λ (o : Option (List ℤ)). or_this o [])
     (out_first l part (xs ++ ys) ∙ once_behind (λ y. out_by y l part) (resource.Permission l part) (out_speaks l part) xs ys (p.within (resource.Permission l part)) h ∙ sym (out_first l part ys))
@@ -116,9 +117,6 @@ behind_agrees xs ys p = record {
 -- behind others, pieces say what they said
 pub behind_kept : (xs ys : List Piece) → IsPossible (xs ++ ys) → Kept ys (heap_of ys) (xs ++ ys)
 behind_kept xs ys p = record { knows = record { more = λ c n k. knows_behind xs ys c k }; agrees = behind_agrees xs ys p }
-
-line_fewer : (a b c d e f m : ℕ) → (a + d) + ((b + e) + (c + f)) ≤ m → d + (e + f) ≤ m
-line_fewer a b c d e f m h = omega arith
 
 pub possible_behind : (xs ys : List Piece) → IsPossible (xs ++ ys) → IsPossible ys
 possible_behind xs ys p = record {
