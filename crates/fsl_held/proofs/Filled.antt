@@ -7,9 +7,9 @@ use Rattle.fsl_core.specs.declared.mode.Rung.{Rung}
 use Rattle.fsl_core.specs.declared.mode.Rung.TheVariants.{Plain, Up, Down, Msg}
 use Rattle.fsl_meaning.specs.Heaps.{Key, Key as key, Heap as Amounts, MayRead, Agrees}
 use Rattle.fsl_meaning.proofs.Deciding.{equal, is_equal}
-use Rattle.fsl_own.specs.Owning.{Resource, Cell, Permission, Bank, Heap, only, Deal, Known}
+use Rattle.fsl_own.specs.Owning.{Resource, Cell, Permission, Bank, Heap, Deal, Known}
 use Rattle.fsl_own.specs.Atoms.{Atom, Points, Init, Rel, Acq, RmwAcq, Tok, Auth, asked, Says, IsFor}
-use Rattle.fsl_own.proofs.Totals.{none_or_some, only_here, only_elsewhere, only_some}
+use Rattle.fsl_own.proofs.Totals.{none_or_some, only_elsewhere, only_some}
 use Rattle.fsl_good.specs.Pieces.{Level, AtPlain, AtUp, AtDown, same_level, Piece, asked_at, demand_at, IsPossible}
 use Rattle.fsl_held.specs.Heaps.{heap_of, truth_of, is_at, same_numbers, same_leave, says, knows_in, or_else, or_this, value_by, value_in, out_by, out_in, count_by, count_in, bank_in}
 use Rattle.fsl_held.proofs.Cuts.{Values}

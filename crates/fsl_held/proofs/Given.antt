@@ -6,7 +6,6 @@ use Rattle.std.proofs.lemmas.Bool.{and_parts}
 use Rattle.fsl_core.specs.declared.mode.Rung.{Rung}
 use Rattle.fsl_core.specs.declared.mode.Rung.TheVariants.{Plain}
 use Rattle.fsl_meaning.specs.Heaps.{Claim, IsInit, MayWrite, MayRead, MayUpdate}
-use Rattle.fsl_meaning.proofs.Deciding.{equal}
 use Rattle.fsl_meaning.proofs.Heaps.{same_rung_is}
 use Rattle.fsl_graph.specs.declared.graph.Graph.{Graph}
 use Rattle.fsl_graph.specs.Positions.{Holder}
@@ -14,7 +13,7 @@ use Rattle.fsl_own.specs.Owning.{Resource, Heap, Known}
 use Rattle.fsl_own.specs.Atoms.{Atom, Points, Init, Rel, Acq, RmwAcq, Tok, Auth, asked, Says, IsRight}
 use Rattle.fsl_own.proofs.Totals.{none_or_some, only_some}
 use Rattle.fsl_good.specs.Pieces.{Level, AtPlain, AtUp, AtDown, same_level, holder_of, Piece, level_at, placed, all_placed, demand_at, RightPieces, AllSay}
-use Rattle.fsl_held.specs.Heaps.{is_at, same_leave, says, knows_in, value_by, value_in, or_else}
+use Rattle.fsl_held.specs.Heaps.{is_at, same_leave, says, knows_in, value_in}
 use Rattle.fsl_held.specs.Parts.{rung_of, is_claim_at}
 use Rattle.fsl_held.proofs.Heaps.{value_said}
 use Rattle.fsl_held.proofs.Cuts.{kind_of, size, level_of, level_is, Values, sized, part, part_if, is_placed, take_of, less, given, rest, asked_is}
