@@ -14,8 +14,11 @@ use Rattle.fsl_good.specs.Good.{EachPays}
 use Rattle.fsl_held.specs.Heaps.{heap_of, truth_of, ground_of, Kept}
 use Rattle.fsl_held.specs.Asked.{Asked, Satisfies, Parted, logic_of}
 use Rattle.fsl_held.specs.Parts.{IsInFront}
-use Rattle.fsl_derived.proofs.Assumed.{front_is_kept, asked_is_kept, need_is_parted, front_satisfies}
-use Rattle.fsl_derived.proofs.Lists.{entails_self, entails_then, entails_behind, first_apart, kept_self, kept_less, kept_then}
+use Rattle.fsl_held.proofs.Fronts.{front_is_kept}
+use Rattle.fsl_held.proofs.Kept.{asked_is_kept}
+use Rattle.fsl_held.proofs.Satisfied.{need_is_parted, front_satisfies}
+use Rattle.fsl_walk.proofs.Rounds.{kept_self, kept_less, kept_then}
+use Rattle.fsl_derived.proofs.Lists.{entails_self, entails_then, entails_behind, first_apart}
 use Rattle.fsl_derived.proofs.Passing.{IsStarted, EachStarted, EachSatisfied, all_owed}
 
 -- ---- taken out

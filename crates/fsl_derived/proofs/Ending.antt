@@ -26,24 +26,17 @@ use Rattle.fsl_held.specs.Heaps.{heap_of, truth_of, ground_of, Kept}
 use Rattle.fsl_held.specs.Asked.{Satisfies, Debt, owes_nothing, owes, OwedFor, logic_of}
 use Rattle.fsl_walk.specs.Stances.{AllDerived, Activation, Stance, Runs, Returns}
 use Rattle.fsl_walk.specs.Walks.{IsClosed}
-use Rattle.fsl_derived.proofs.Assumed.{Shares, is_shared, need_is_parted, ensures_are_seen, bodies_keep_contracts}
-use Rattle.fsl_derived.proofs.Follows.{each_lands}
+use Rattle.fsl_held.proofs.Satisfied.{need_is_parted}
+use Rattle.fsl_scoped.specs.Assertions.{is_shared, Shares}
+use Rattle.fsl_scoped.proofs.Bodies.{bodies_keep_contracts}
+use Rattle.fsl_scoped.proofs.Ensures.{ensures_seen}
+use Rattle.fsl_scoped.proofs.Lists.{get_other}
+use Rattle.fsl_walk.proofs.Slots.{set_long}
+use Rattle.fsl_walk.proofs.Steps.{each_lands}
 use Rattle.fsl_derived.proofs.Lists.{entails_then, entails_front, entails_none}
 use Rattle.fsl_derived.proofs.Moving.{ending_good}
 
 -- ---- what the body leaves of its contract
-
-get_other : {X : Type 0} (xs : List X) (i k : ℕ) (x : X) → (k ≡ i → ⊥) → slice_get (slice_set xs i x) k ≡ slice_get xs k
-get_other [] i k x n = refl
-get_other (y ∷ ys) zero zero x n = absurd (n refl)
-get_other (y ∷ ys) zero (suc k) x n = refl
-get_other (y ∷ ys) (suc i) zero x n = refl
-get_other (y ∷ ys) (suc i) (suc k) x n = get_other ys i k x (λ e. n (ap suc e))
-
-set_long : {X : Type 0} (xs : List X) (i : ℕ) (x : X) → length (slice_set xs i x) ≡ length xs
-set_long [] i x = refl
-set_long (y ∷ ys) zero x = refl
-set_long (y ∷ ys) (suc i) x = ap suc (set_long ys i x)
 
 -- what the contract sees is as it was where the body starts
 abbrev pub AtStart : Proc → List ℤ → List ℤ → Type 0
@@ -77,7 +70,7 @@ ends p owes_nothing q env scoped long owed under xs slots v s t x at possible st
 ends p (owes post e) q env scoped long owed under xs slots v s t x at possible stance same means derived =
     let land = each_lands at (λ y. path_ends at) (finish_fits q.post t x stance.fits means) derived in
     let gives = land.is.gives in
-    let seen = ensures_are_seen p.procs q (truth_of xs) slots env x gives.need scoped (same.long ∙ long) same gives.is in
+    let seen = ensures_seen p.procs q (truth_of xs) slots env x gives.need scoped (same.long ∙ long) same gives.is in
     let heap_is : (k : Key) → seen.0.heap k ≡ gives.need.heap k = λ k. ap (λ (h : Heap). h k) seen.2.heap in
     let parted = need_is_parted p.invs xs q.post (env ++ x ∷ []) seen.0 possible (subst (λ (a : Asrt). IsPlain p.invs a) owed.0 owed.2)
     (record { is = seen.1; known = subst (λ (cs : List Claim). AllKnown (ground_of xs) cs) (sym seen.2.claims) gives.known })

@@ -1,4 +1,3 @@
-pub mod Follows
 pub mod Lists
 pub mod Assumed
 pub mod Passing

@@ -1,15 +1,10 @@
--- Pieces that are taken out of others, and what stays so.
+-- Pieces that are taken out of others.
 use Rattle.std.proofs.Common.{◌≡◌, ℕ, ◌+◌, ◌≤◌, ℤ, refl, List, [], ◌∷◌, ◌++◌, sym, ap, ◌∙◌, subst, arith}
-use Rattle.fsl_meaning.specs.Heaps.{Key, Heap, Claim, Agrees}
-use Rattle.fsl_meaning.proofs.Kept.{agrees_less, needs_less, knows_less}
 use Rattle.fsl_own.specs.Atoms.{Atom}
 use Rattle.fsl_good.specs.Pieces.{together, AtPlain, Piece, all_placed, demand_at, Entails}
 use Rattle.fsl_good.proofs.Pieces.{demand_more, right_first, right_last, right_more}
 use Rattle.fsl_good.proofs.Sending.{placed_more}
 use Rattle.fsl_safe.proofs.Handing.{pieces_behind}
-use Rattle.fsl_held.specs.Heaps.{heap_of, truth_of, ground_of, Kept}
-
--- ---- what is entailed
 
 line_self : (a : ℕ) → a ≤ a
 line_self a = omega arith
@@ -55,26 +50,3 @@ entails_none xs = record { enough = λ a r. line_none (demand_at a xs r); right 
 -- the first atoms of several, in front of the others
 pub first_apart : (ys : List Atom) (yss : List (List Atom)) (xs : List Piece) → all_placed AtPlain (together (ys ∷ yss)) ++ xs ≡ all_placed AtPlain ys ++ (all_placed AtPlain (together yss) ++ xs)
 first_apart ys yss xs = ap (λ (zs : List Piece). zs ++ xs) (placed_more AtPlain ys (together yss)) ∙ pieces_behind (all_placed AtPlain ys) (all_placed AtPlain (together yss)) xs
-
--- ---- what is kept
-
-pub kept_self : (xs : List Piece) (h : Heap) → Kept xs h xs
-kept_self xs h = record { knows = record { more = λ c n e. e }; agrees = record { value = λ r l x some e. e; out = λ l p some. refl_out l p; bank = λ b some. refl_bank b } }
-  where
-    refl_out : (l : ℤ) (p : ℕ) → (truth_of xs).out l p ≡ (truth_of xs).out l p
-    refl_out l p = refl
-    refl_bank : (b : ℤ) → (truth_of xs).bank b ≡ (truth_of xs).bank b
-    refl_bank b = refl
-
-pub kept_less : {base xs : List Piece} (h more : Heap) → ((k : Key) → h k ≤ more k) → Kept base more xs → Kept base h xs
-kept_less h more l k = record { knows = knows_less h more l k.knows; agrees = agrees_less h more l k.agrees }
-
-pub kept_then : {base xs ys : List Piece} {h : Heap} → Kept base h xs → Kept xs h ys → Kept base h ys
-kept_then k m = record {
-  knows = record { more = λ c n e. m.knows.more c n (k.knows.more c n e) };
-  agrees = record {
-    value = λ r l x some e. m.agrees.value r l x some (k.agrees.value r l x some e);
-    out = λ l p some. m.agrees.out l p some ∙ k.agrees.out l p some;
-    bank = λ b some. m.agrees.bank b some ∙ k.agrees.bank b some;
-  };
-}

@@ -20,8 +20,6 @@ use Rattle.fsl_core.specs.logic.Paths.{Ends, each}
 use Rattle.fsl_lin.specs.Numbers.{Numbers}
 use Rattle.fsl_meaning.specs.Heaps.{Key, Heap}
 use Rattle.fsl_meaning.specs.States.{All, Fits}
-use Rattle.fsl_meaning.proofs.Joining.{bounded_less}
-use Rattle.fsl_meaning.proofs.Kept.{agrees_less, knows_less, fits_kept}
 use Rattle.fsl_asserted.specs.Needs.{Need}
 use Rattle.fsl_kept.specs.Threads.{Started, started, AllRun, all_needs, with_binders}
 use Rattle.fsl_kept.proofs.Threads.{args_tell, starts_fit, joins_fit}
@@ -32,12 +30,11 @@ use Rattle.fsl_held.specs.Heaps.{heap_of, ground_of, Kept}
 use Rattle.fsl_held.specs.Asked.{logic_of}
 use Rattle.fsl_walk.specs.Stances.{AllDerived, Activation, config_of, IsGood, IsGoodMove, Stance, Matches, Runs}
 use Rattle.fsl_walk.specs.Walks.{ParMoves}
-use Rattle.fsl_derived.proofs.Assumed.{heap_is_bounded}
-use Rattle.fsl_derived.proofs.Follows.{each_goes, each_tells, each_lands, each_followed}
-use Rattle.fsl_derived.proofs.Lists.{kept_less, kept_then}
+use Rattle.fsl_walk.proofs.Rounds.{kept_less, kept_then, frame_fits, bounded}
+use Rattle.fsl_walk.proofs.Steps.{derived_left, each_tells, each_lands, each_followed, good_possible, good_halting}
 use Rattle.fsl_derived.proofs.Passing.{EachStarted, all_started, all_owed, each_starts}
 use Rattle.fsl_derived.proofs.Cutting.{cut_all, values_of, paid_all}
-use Rattle.fsl_derived.proofs.Moving.{good_given, halts, joining_good, forking_good}
+use Rattle.fsl_derived.proofs.Moving.{joining_good, forking_good}
 
 -- ---- joined
 
@@ -78,9 +75,9 @@ join u m ks ns scope stmts Q base under at after xs rest slots env rs yss runs k
     let paid = paid_all u.program ks ns rs yss rest pays possible in
     let stays = kept_then f.kept (kept_less whole (heap_of rest) f.enough paid.kept) in
     let own = λ (i : Key). line_left (f.left i) (under i) in
-    let fit = fits_kept (ground_of new) (knows_less f.left whole own stays.knows) (agrees_less f.left whole own stays.agrees) f.fits in
+    let fit = frame_fits f.left (kept_less f.left whole own stays) f.fits in
     let more : Heap = λ i. all_needs paid.needs i + f.left i in
-    let room = bounded_less more (λ i. line_first (all_needs paid.needs i) (f.left i) (under i) (heap_of rest i) (heap_of new i) (f.enough i) (paid.room i)) (heap_is_bounded new possible) in
+    let room = bounded new more possible (λ i. line_first (all_needs paid.needs i) (f.left i) (under i) (heap_of rest i) (heap_of new i) (f.enough i) (paid.room i)) in
     let land = each_lands at (λ x. after) (joins_fit (values_of rs) paid.needs more fit f.are paid.ensures (λ i. line_self (more i)) room) f.derived in
     runs k less new slots env land.numbers land.state
     (kept_then kept (kept_less under whole (λ i. line_under (f.left i) (under i)) stays))
@@ -101,22 +98,22 @@ fork : (u : Activation) (m : ℕ) (calls : List Called) (scope : Scope) (stmts :
     → (xs : List Piece) (slots env : List ℤ) (v : Numbers) (s : State) → IsPossible xs → Kept base under xs → Stance xs under slots v s → Matches scope env slots → Q slots
     → AllDerived (each at (par (setting_of asrt_of u.program) (map (call_of expr_of) calls) s) (λ x. after)) → (o : Option (List Start)) → started_of u.program calls env ≡ o
     → IsGoodMove u m (forking o (λ first. joining first (length calls) (record { stmts = stmts; env = env; target = u.target }) u.below)) xs
-fork u m calls scope stmts after Q base under at well passed fits outside runs xs slots env v s possible kept stance matches q derived None is = halts u m xs
+fork u m calls scope stmts after Q base under at well passed fits outside runs xs slots env v s possible kept stance matches q derived None is = good_halting u m xs
 fork u m calls scope stmts after Q base under at well passed fits outside runs xs slots env v s possible kept stance matches q derived (Some ds) is =
     let setting = setting_of asrt_of u.program in
     let reads = map (call_of expr_of) calls in
     let ks = started u.program slots calls in
     let each_is = all_started u.program scope env slots calls ds well outside matches.sees passed fits is in
-    let one = each_goes at (here s) (λ e t. each at (followed (with_args setting reads e t) (λ rs r. followed (start_each rs r) join_each)) (λ x. after)) s.env s (inl refl)
-    (each_followed at (here s) (λ e t. followed (with_args setting reads e t) (λ rs r. followed (start_each rs r) join_each)) (λ x. after) derived) in
+    let one = derived_left (each at (followed (with_args setting reads s.env s) (λ rs r. followed (start_each rs r) join_each)) (λ x. after)) []
+    (each_followed at (λ e t. followed (with_args setting reads e t) (λ rs r. followed (start_each rs r) join_each)) (λ x. after) (here s) derived) in
     let told = each_tells at (λ rs t. each at (followed (start_each rs t) join_each) (λ x. after)) (args_tell u.program calls stance.fits stance.fits.env)
-    (each_followed at (with_args setting reads s.env s) (λ rs r. followed (start_each rs r) join_each) (λ x. after) one) in
-    let land = each_lands at (λ rs t. each at (join_each rs t) (λ x. after)) (starts_fit stance.fits told.is) (each_followed at (start_each told.result s) join_each (λ x. after) told.derived) in
+    (each_followed at (λ rs r. followed (start_each rs r) join_each) (λ x. after) (with_args setting reads s.env s) one) in
+    let land = each_lands at (λ rs t. each at (join_each rs t) (λ x. after)) (starts_fit stance.fits told.is) (each_followed at join_each (λ x. after) (start_each told.gives s) told.derived) in
     let whole : Heap = λ k. land.is.left k + under k in
     let cut = cut_all u.program ds ks land.is.needs whole xs each_is possible land.is.are
     (λ k. line_parts (stance.mine k) (land.is.left k) (all_needs land.is.needs k) (under k) (heap_of xs k) (land.is.parts k) (stance.parts k)) in
     let forked : Forked ks land.is.needs slots under at after xs cut.rest = record {
-      runs = land.result;
+      runs = land.gives;
       state = land.state;
       numbers = land.numbers;
       left = land.is.left;
@@ -133,7 +130,7 @@ fork u m calls scope stmts after Q base under at well passed fits outside runs x
       gives = cut.gives;
       starts = each_starts u.program ds ks land.is.needs cut.atoms each_is cut.satisfied;
       next = joining_good (logic_of u.program) u.program u.debt m first (length calls) (record { stmts = stmts; env = env; target = u.target }) u.below (all_owed ks land.is.needs) cut.rest
-          (λ k less rs yss pays. good_given (logic_of u.program) u.program u.debt k (config_of u stmts env) [] (all_placed AtPlain (together yss) ++ cut.rest) (λ e. absurd (cc))
+          (λ k less rs yss pays. good_possible u k (config_of u stmts env) (all_placed AtPlain (together yss) ++ cut.rest) (λ e. absurd (cc))
           (join u m ks land.is.needs scope stmts Q base under at after xs cut.rest slots env rs yss runs kept matches q forked pays k less));
     })
 

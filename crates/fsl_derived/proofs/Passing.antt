@@ -25,7 +25,7 @@ use Rattle.fsl_good.specs.Pieces.{AtPlain, all_placed}
 use Rattle.fsl_good.specs.Good.{EachStarts}
 use Rattle.fsl_held.specs.Heaps.{truth_of}
 use Rattle.fsl_held.specs.Asked.{Satisfies, Debt, owes, StartsWith, logic_of}
-use Rattle.fsl_derived.proofs.Assumed.{starts_are_seen, arguments_are_exact}
+use Rattle.fsl_scoped.proofs.Arguments.{arguments_exact, starts_seen}
 
 -- ---- procedures of a well-formed program
 
@@ -75,14 +75,14 @@ one_started p scope env slots c args rest others well outside sees (Some q) is p
     let plain = and_parts (asrt_fits p.invs q.pre false) (asrt_fits p.invs q.post false) takes.1 in
     let count : q.params ≡ length c.args = eqb-true q.params (length c.args) takes.0 in
     let scoped = (well_proc p c.proc q well is).1 in
-    let told = arguments_are_exact p.procs q scope c.args env slots args scoped outside (sym count) passed sees given in (
+    let told = arguments_exact p.procs q scope c.args env slots args scoped outside (sym count) passed sees given in (
       record {
         is = is;
         numbers = exact_all c.args slots;
         are = refl;
         long = mapped_length (λ e. exact e slots) c.args ∙ sym count;
         given = told.0;
-        sees = λ t n asked. (starts_are_seen p.procs q scope c.args env slots args t Plain n scoped outside (sym count) passed sees given asked).1;
+        sees = λ t n asked. (starts_seen p.procs q scope c.args env slots args t Plain n scoped outside (sym count) passed sees given asked).1;
         pre_is_plain = plain.0;
         post_is_plain = plain.1;
       },

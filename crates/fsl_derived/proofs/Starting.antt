@@ -32,11 +32,13 @@ use Rattle.fsl_held.specs.Asked.{Debt, StartsWith, logic_of}
 use Rattle.fsl_walk.specs.Covered.{covers, covers_proc}
 use Rattle.fsl_walk.specs.Stances.{Activation, config_of, reading, IsGood, Stance, Matches}
 use Rattle.fsl_walk.specs.Walks.{IsDerived, Walks}
-use Rattle.fsl_derived.proofs.Assumed.{heap_is_bounded, binders_are_free, bodies_are_declared, no_ensures}
-use Rattle.fsl_derived.proofs.Follows.{each_lands}
-use Rattle.fsl_derived.proofs.Lists.{kept_self}
+use Rattle.fsl_held.proofs.Bounded.{heap_is_bounded}
+use Rattle.fsl_scoped.proofs.Assertions.{binders_free}
+use Rattle.fsl_scoped.proofs.Bodies.{bodies_are_declared, contracts_outside}
+use Rattle.fsl_scoped.proofs.Parameters.{proc_fits as parts_of}
+use Rattle.fsl_walk.proofs.Rounds.{kept_self}
+use Rattle.fsl_walk.proofs.Steps.{each_lands, good_possible}
 use Rattle.fsl_derived.proofs.Passing.{all_procs, well_proc}
-use Rattle.fsl_derived.proofs.Moving.{good_given}
 use Rattle.fsl_derived.proofs.Ending.{AtStart, body_closed, outermost, end_returns, closing_runs}
 
 -- ---- numbers that are padded
@@ -47,25 +49,6 @@ line_padded k l r n e f i = omega arith
 padded_long : (k : ℕ) (xs : List ℤ) → length xs ≤ k → length (padded_numbers k xs) ≡ k
 padded_long k xs room =
     line_padded k (length xs) (length (replicate (k - length xs) (pos 0))) (length (padded_numbers k xs)) (length-append xs (replicate (k - length xs) (pos 0))) (length-replicate (k - length xs) (pos 0)) room
-
--- ---- what is so of a procedure that is scoped
-
-record IsScoped (procs : List Proc) (q : Proc) : Type 0 where
-  room : q.params ≤ q.slots
-  requires : (asrt_scoped q.pre).fits (parameters_of q) ≡ true
-  body : (block_scoped procs q.body).fits (in_body (behind_requires q)) ≡ true
-
-is_scoped : (procs : List Proc) (q : Proc) → proc_is_scoped procs q ≡ true → IsScoped procs q
-is_scoped procs q h =
-    let pre = (asrt_scoped q.pre).fits (parameters_of q) in
-    let post = (asrt_scoped q.post).fits (in_ensures (behind_requires q)) in
-    let body = (block_scoped procs q.body).fits (in_body (behind_requires q)) in
-    let one = and_parts (has_room q) (pre && (post && body)) h in
-    let two = and_parts pre (post && body) one.1 in
-    let three = and_parts post body two.1 in
-    let room = and_parts (nat_le q.slots 256) (nat_le q.params q.slots && nat_le (length q.banks) q.slots) one.0 in
-    let params = and_parts (nat_le q.params q.slots) (nat_le (length q.banks) q.slots) room.1 in
-    record { room = leb-true q.params q.slots params.0; requires = two.0; body = three.1 }
 
 body_fits : (p : Program) (q : Proc) → proc_fits p q ≡ true → list_all (stmt_fits p) q.body ≡ true
 body_fits p q h =
@@ -92,9 +75,9 @@ body_good p derived walks o call ys s n possible =
     let xs = all_placed AtPlain ys in
     let env = padded_numbers q.slots call.args in
     let well = well_proc p call.proc q derived.well s.is in
-    let scoped = is_scoped p.procs q well.1 in
+    let scoped = parts_of p.procs q well.1 in
     let long : length s.need.env ≡ q.slots =
-    (binders_are_free (parameters_of q) q.pre (truth_of xs) Plain (padded_numbers q.slots s.numbers) s.need scoped.requires s.satisfies.asked.is).0
+    (binders_free (parameters_of q) q.pre (truth_of xs) Plain (padded_numbers q.slots s.numbers) s.need scoped.pre s.satisfies.asked.is).0
     ∙ padded_long q.slots s.numbers (subst (λ (k : ℕ). k ≤ q.slots) (sym s.long) scoped.room) in
     let land = each_lands nowhere (λ x t. block (map (stmt_of (reading u)) q.body) 0 t (closing (asrt_of q.post) q.last))
     (enter_fits q s.numbers s.need (heap_of xs) s.long (start_fits xs) s.satisfies.asked.is s.satisfies.asked.known
@@ -103,7 +86,7 @@ body_good p derived walks o call ys s n possible =
     let returns = end_returns p o q s.need.env n xs nothing well.1 long s.owed in
     subst (λ (stmts : List Stmt). IsGood u n (config_of u stmts env) xs) (append-nil q.body)
     (walks u refl n q.body (in_body (behind_requires q)) (in_body (behind_requires q)) 0 [] (closing (asrt_of q.post) q.last) (AtStart q s.need.env) xs nothing
-    scoped.body (no_ensures q) (body_fits p q well.0) (all_procs covers_proc p.procs call.proc q derived.covered s.is)
+    scoped.body (contracts_outside q) (body_fits p q well.0) (all_procs covers_proc p.procs call.proc q derived.covered s.is)
     (bodies_are_declared p.procs q) (λ slot seen. seen) (body_closed p.procs q (reading u) s.need.env well.1)
     (closing_runs u n q.last (in_body (behind_requires q)) (AtStart q s.need.env) xs nothing returns) returns
     xs s.need.env env land.numbers land.state (kept_self xs nothing)
@@ -120,5 +103,5 @@ pub thread_good : (p : Program) → IsDerived p → AllWalk p → (o : Debt) (ca
     → Good (logic_of p) p o n (start_of p call.proc call.args) [] (all_placed AtPlain ys)
 thread_good p derived walks o call ys s n =
     subst (λ (c : Config). Good (logic_of p) p o n c [] (all_placed AtPlain ys)) (sym (ap (λ (q : Option Proc). started_at (entered q call.args None)) s.is))
-    (good_given (logic_of p) p o n (config_of (outermost p o s.proc) s.proc.body (padded_numbers s.proc.slots call.args)) [] (all_placed AtPlain ys) (λ e. absurd (cc))
+    (good_possible (outermost p o s.proc) n (config_of (outermost p o s.proc) s.proc.body (padded_numbers s.proc.slots call.args)) (all_placed AtPlain ys) (λ e. absurd (cc))
     (body_good p derived walks o call ys s n))
