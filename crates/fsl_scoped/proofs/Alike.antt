@@ -1,8 +1,7 @@
 -- Two lists of numbers that agree on what assertions see, and what expressions come to under them.
-use Rattle.std.proofs.Common.{◌≡◌, ◌⊎◌, inl, inr, ℕ, ◌+◌, Bool, true, false, ◌&&◌, ◌||◌, List, [], ◌∷◌, map, length, ℤ, pos, negsuc, ◌*ℤ◌, get_or, slice_get, slice_set, is_some, ap, ◌∙◌, sym, subst, refl, length-set, get_or-set_other}
+use Rattle.std.proofs.Common.{◌≡◌, ◌⊎◌, inl, inr, ℕ, Bool, true, false, List, [], ◌∷◌, map, length, ℤ, pos, negsuc, ◌*ℤ◌, get_or, slice_get, slice_set, is_some, ap, ◌∙◌, sym, subst, refl, length-set, get_or-set_other}
 use Rattle.std.proofs.lemmas.Bool.{and_parts, or_left, or_right, or_cases, cases_eq}
 use Rattle.std.specs.List.{list_all}
-use Rattle.fsl_core.specs.declared.assertion.Inst.{Inst}
 use Rattle.fsl_core.specs.declared.expr.Cond.{Cond}
 use Rattle.fsl_core.specs.declared.expr.Cond.TheVariants as cond
 use Rattle.fsl_core.specs.declared.expr.Expr.{Expr}
@@ -14,7 +13,7 @@ use Rattle.fsl_core.specs.declared.scope.Scope.{Scope}
 use Rattle.fsl_core.specs.declared.scope.Sight.{Sight}
 use Rattle.fsl_core.specs.declared.scope.Sight.TheVariants as sight
 use Rattle.fsl_core.specs.Values.{plus_or_minus, compared}
-use Rattle.fsl_core.specs.Scopes.{is_number, is_bank, is_free, sight_at, with_sight, reads, reads_step, part_reads_step, reads_all, tests, bank_step, is_bank_alone, inst_argument_fits, inst_reads}
+use Rattle.fsl_core.specs.Scopes.{is_number, is_bank, is_free, sight_at, with_sight, reads, reads_step, part_reads_step, reads_all, tests, bank_step, is_bank_alone, inst_argument_fits}
 use Rattle.fsl_asserted.specs.Exact.{Number, last_number, exact_sum, exact_product, exact_step, exact_part, exact, exact_all, exact_cond}
 use Rattle.fsl_asserted.specs.Needs.{bank_number}
 use Rattle.fsl_scoped.specs.Assertions.{is_shared}
@@ -50,6 +49,7 @@ alike_set a xs ys slot x free h = record {
     before : (k : ℕ) → is_free (sight_at (with_sight slot sight.Bound a) k) ≡ true → is_free (sight_at a k) ≡ true
     before k = set_cases a.sights slot k sight.Bound sight.Kept (λ (z : Sight). is_free z ≡ true → is_free (sight_at a k) ≡ true)
         (λ e s. absurd (let d : false ≡ true = s in cc)) (λ w s. s)
+
     at : (k : ℕ) → is_shared (sight_at (with_sight slot sight.Bound a) k) ≡ true → (k ≡ slot) ⊎ (k ≡ slot → ⊥)
         → slice_get (slice_set xs slot x) k ≡ slice_get (slice_set ys slot x) k
     at k s (inl e) = subst (λ (j : ℕ). slice_get (slice_set xs slot x) j ≡ slice_get (slice_set ys slot x) j) (sym e) (set_alike xs ys slot x (h.room slot free))
@@ -166,9 +166,9 @@ bank_alone_alike scope xs ys alike e h =
 
 argument_alike : (scope : Scope) (xs ys : List ℤ) → Alike scope xs ys → (e : Expr) → inst_argument_fits scope e ≡ true → exact e xs ≡ exact e ys
 argument_alike scope xs ys alike e h = elim (or_cases (reads scope e) (is_bank_alone scope e) h) [
-    | inl r ↦ expr_alike scope xs ys alike e r
-    | inr b ↦ bank_alone_alike scope xs ys alike e b
-  ]
+  | inl r ↦ expr_alike scope xs ys alike e r
+  | inr b ↦ bank_alone_alike scope xs ys alike e b
+]
 
 pub inst_alike : (scope : Scope) (xs ys : List ℤ) → Alike scope xs ys → (es : List Expr) → list_all (inst_argument_fits scope) es ≡ true → exact_all es xs ≡ exact_all es ys
 inst_alike scope xs ys alike [] h = refl

@@ -1,8 +1,7 @@
 -- The arguments of a run and of a path.
-use Rattle.std.proofs.Common.{◌≡◌, ℕ, zero, suc, ◌+◌, ◌-◌, ◌==◌, Bool, true, false, ◌&&◌, List, [], ◌∷◌, ◌++◌, map, length, replicate, Some, ℤ, pos, slice_get, ap, ◌∙◌, sym, subst, refl, arith}
+use Rattle.std.proofs.Common.{◌≡◌, ℕ, zero, suc, ◌+◌, ◌-◌, ◌==◌, Bool, true, false, List, [], ◌∷◌, ◌++◌, length, replicate, Some, ℤ, pos, slice_get, ap, ◌∙◌, sym, subst, refl, arith}
 use Rattle.std.proofs.lemmas.Bool.{and_parts}
 use Rattle.std.specs.List.{list_any}
-use Rattle.fsl_core.specs.declared.declaration.Proc.{Proc}
 use Rattle.fsl_core.specs.declared.expr.Expr.{Expr}
 use Rattle.fsl_core.specs.declared.scope.Scope.{Scope}
 use Rattle.fsl_core.specs.Moves.{argument, arguments_from}
@@ -59,11 +58,13 @@ length_all (e ∷ es) xs = ap suc (length_all es xs)
 
 pub arguments_exact : ArgumentsAreExact
 arguments_exact procs q scope args env slots vs scoped out count fit sees h =
-    let passed = args_passed scope env slots sees q.banks 0 args vs fit h in
-    (passed.long ∙ length_all args slots ∙ count, λ slot number.
-    let start = start_number procs q slot (proc_fits procs q scoped) number in
-    let parameter = number_parameter q slot start.number in
-    padded_alike q.slots slot vs (exact_all args slots) passed.long (passed.same slot slot (omega arith) parameter.number))
+    let passed = args_passed scope env slots sees q.banks 0 args vs fit h in (
+      passed.long ∙ length_all args slots ∙ count,
+      λ slot number.
+          let start = start_number procs q slot (proc_fits procs q scoped) number in
+          let parameter = number_parameter q slot start.number in
+          padded_alike q.slots slot vs (exact_all args slots) passed.long (passed.same slot slot (omega arith) parameter.number),
+    )
 
 pub starts_seen : StartsAreSeen
 starts_seen procs q scope args env slots vs t rung n scoped out count fit sees h asked =

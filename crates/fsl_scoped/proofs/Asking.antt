@@ -1,7 +1,6 @@
 -- Assertions ask for the same under two lists of numbers that agree on what they see.
-use Rattle.std.proofs.Common.{◌≡◌, ℕ, ◌+◌, Bool, true, false, ◌&&◌, List, [], ◌∷◌, ◌++◌, map, Option, Some, None, ℤ, slice_set, if◌then◌else◌, ap, ◌∙◌, sym, subst, refl}
+use Rattle.std.proofs.Common.{◌≡◌, ℕ, ◌+◌, Bool, true, false, ◌&&◌, List, [], ◌∷◌, ◌++◌, map, Option, Some, ℤ, slice_set, if◌then◌else◌, ap, ◌∙◌, sym, subst, refl}
 use Rattle.std.proofs.lemmas.Bool.{and_parts}
-use Rattle.std.specs.List.{list_all}
 use Rattle.std.specs.Ordering.{int_eq}
 use Rattle.fsl_core.specs.declared.assertion.Asrt.{Asrt}
 use Rattle.fsl_core.specs.declared.assertion.Asrt.TheOpen.{Asrt-F}
@@ -10,12 +9,11 @@ use Rattle.fsl_core.specs.declared.assertion.Asrt.TheFolds.{ind-Asrt, map-Asrt, 
 use Rattle.fsl_core.specs.declared.assertion.Inst.{Inst}
 use Rattle.fsl_core.specs.declared.assertion.Pat.{Pat}
 use Rattle.fsl_core.specs.declared.assertion.Pat.TheVariants as pat
-use Rattle.fsl_core.specs.declared.expr.Cond.{Cond}
 use Rattle.fsl_core.specs.declared.expr.Expr.{Expr}
 use Rattle.fsl_core.specs.declared.mode.Rung.{Rung}
 use Rattle.fsl_core.specs.declared.mode.Rung.TheVariants as rung
 use Rattle.fsl_core.specs.declared.scope.Scope.{Scope}
-use Rattle.fsl_core.specs.Scopes.{is_free, is_bank, sight_at, reads, reads_all, tests, inst_reads, Scoped, still, all_fit, behind_all, in_turn, pat_fits, bound, asrt_step, asrt_scoped}
+use Rattle.fsl_core.specs.Scopes.{is_bank, sight_at, reads, reads_all, tests, inst_reads, Scoped, still, all_fit, behind_all, in_turn, pat_fits, bound, asrt_step, asrt_scoped}
 use Rattle.fsl_core.specs.Values.{with_value}
 use Rattle.fsl_meaning.specs.Heaps.{Key as key, Heap, nothing, some_of, Truth, Claim, all_in}
 use Rattle.fsl_meaning.specs.Heaps.{Claim as claim}

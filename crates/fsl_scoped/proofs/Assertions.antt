@@ -1,5 +1,5 @@
 -- What assertions see, and what they set.
-use Rattle.std.proofs.Common.{◌≡◌, true, false, List, length, Some, ℤ, ap, ◌∙◌, sym, refl}
+use Rattle.std.proofs.Common.{◌≡◌, true, false, List, ℤ, ◌∙◌, sym}
 use Rattle.fsl_core.specs.declared.scope.Scope.{Scope}
 use Rattle.fsl_scoped.specs.Assertions.{Shares, AssertionsAreSeen, BindersAreFree}
 use Rattle.fsl_scoped.proofs.Lists.{room_long}

@@ -1,5 +1,5 @@
 -- What is seen behind an assertion: what was seen before it, and its binders.
-use Rattle.std.proofs.Common.{◌≡◌, ◌⊎◌, inl, inr, ℕ, Bool, true, false, ◌&&◌, ◌||◌, List, [], ◌∷◌, map, ap, ◌∙◌, sym, subst, refl}
+use Rattle.std.proofs.Common.{◌≡◌, ◌⊎◌, inl, inr, ℕ, Bool, true, false, ◌&&◌, List, [], ◌∷◌, map, ap, ◌∙◌, sym, subst, refl}
 use Rattle.std.proofs.lemmas.Bool.{and_parts}
 use Rattle.fsl_core.specs.declared.assertion.Asrt.{Asrt}
 use Rattle.fsl_core.specs.declared.assertion.Asrt.TheOpen.{Asrt-F}
@@ -9,7 +9,7 @@ use Rattle.fsl_core.specs.declared.assertion.Pat.TheVariants as pat
 use Rattle.fsl_core.specs.declared.scope.Scope.{Scope}
 use Rattle.fsl_core.specs.declared.scope.Sight.{Sight}
 use Rattle.fsl_core.specs.declared.scope.Sight.TheVariants as sight
-use Rattle.fsl_core.specs.Scopes.{is_free, is_bank, sight_at, with_sight, reads, reads_all, tests, inst_reads, Scoped, still, all_fit, behind_all, in_turn, pat_fits, bound, asrt_step, asrt_scoped}
+use Rattle.fsl_core.specs.Scopes.{is_free, is_bank, sight_at, with_sight, reads, reads_all, tests, inst_reads, Scoped, still, all_fit, behind_all, pat_fits, bound, asrt_step, asrt_scoped}
 use Rattle.fsl_scoped.specs.Assertions.{is_shared}
 use Rattle.fsl_scoped.proofs.Lists.{set_cases}
 
@@ -70,9 +70,10 @@ later_bound slot a free = record {
 pub record Binds (s : Scoped) : Type 0 where
   pub later : (a : Scope) → s.fits a ≡ true → Later a (s.behind a)
   pub local : (a : Scope) (slot : ℕ) → sight_at (s.behind a) slot ≡ sight.Local → sight_at a slot ≡ sight.Local
+  pub outside : (a : Scope) → (s.behind a).in_ensures ≡ a.in_ensures
 
 still_binds : (fits : Scope → Bool) → Binds (still fits)
-still_binds fits = record { later = λ a h. later_same a; local = λ a slot h. h }
+still_binds fits = record { later = λ a h. later_same a; local = λ a slot h. h; outside = λ a. refl }
 
 pat_later : (p : Pat) (a : Scope) → pat_fits a p ≡ true → Later a (bound p a)
 pat_later pat.Any a h = later_same a
@@ -84,6 +85,11 @@ pat_local pat.Any a slot h = h
 pat_local (pat.Bind k) a slot h = set_cases a.sights k slot sight.Bound sight.Kept (λ (z : Sight). z ≡ sight.Local → sight_at a slot ≡ sight.Local)
     (λ e l. absurd (let d : sight.Bound ≡ sight.Local = l in cc)) (λ w l. l) h
 pat_local (pat.Is e) a slot h = h
+
+pat_outside : (p : Pat) (a : Scope) → (bound p a).in_ensures ≡ a.in_ensures
+pat_outside pat.Any a = refl
+pat_outside (pat.Bind slot) a = refl
+pat_outside (pat.Is e) a = refl
 
 turn_later : {X A : Type 0} (b : X → A) (k : A → Scoped) → ((x : X) → Binds (k (b x))) → (xs : List X) (a : Scope)
     → all_fit (map k (map b xs)) a ≡ true → Later a (behind_all (map k (map b xs)) a)
@@ -98,12 +104,18 @@ turn_local : {X A : Type 0} (b : X → A) (k : A → Scoped) → ((x : X) → Bi
 turn_local b k each [] a slot h = h
 turn_local b k each (x ∷ xs) a slot h = (each x).local a slot (turn_local b k each xs ((k (b x)).behind a) slot h)
 
+turn_outside : {X A : Type 0} (b : X → A) (k : A → Scoped) → ((x : X) → Binds (k (b x))) → (xs : List X) (a : Scope)
+    → (behind_all (map k (map b xs)) a).in_ensures ≡ a.in_ensures
+turn_outside b k each [] a = refl
+turn_outside b k each (x ∷ xs) a = turn_outside b k each xs ((k (b x)).behind a) ∙ (each x).outside a
+
 layer : {X A : Type 0} (b : X → A) (k : A → Scoped) → ((x : X) → Binds (k (b x))) → (l : Asrt-F X) → Binds (asrt_step (map-Asrt A Scoped k (map-Asrt X A b l)))
 layer b k each Asrt-F.Emp = still_binds (λ a. true)
 layer b k each (Asrt-F.Fact c) = still_binds (λ a. tests a c)
 layer b k each (Asrt-F.Points at share p) = record {
   later = λ a h. pat_later p a (and_parts (reads a share) (pat_fits a p) (and_parts (reads a at) (reads a share && pat_fits a p) h).1).1;
   local = pat_local p;
+  outside = pat_outside p;
 }
 layer b k each (Asrt-F.Init at) = still_binds (λ a. reads a at)
 layer b k each (Asrt-F.Rel at inst) = still_binds (λ a. reads a at && inst_reads a inst)
@@ -114,7 +126,11 @@ layer b k each (Asrt-F.Auth bank n) = still_binds (λ a. is_bank (sight_at a ban
 layer b k each (Asrt-F.Choice c x y) = still_binds (λ a. tests a c && ((k (b x)).fits a && (k (b y)).fits a))
 layer b k each (Asrt-F.Up x) = still_binds (k (b x)).fits
 layer b k each (Asrt-F.Down x) = still_binds (k (b x)).fits
-layer b k each (Asrt-F.Both xs) = record { later = λ a h. turn_later b k each xs a h; local = λ a slot h. turn_local b k each xs a slot h }
+layer b k each (Asrt-F.Both xs) = record {
+  later = λ a h. turn_later b k each xs a h;
+  local = λ a slot h. turn_local b k each xs a slot h;
+  outside = λ a. turn_outside b k each xs a;
+}
 
 pub asrt_binds : (a : Asrt) → Binds (asrt_scoped a)
 asrt_binds = ind-Asrt (λ a. Binds (asrt_scoped a))

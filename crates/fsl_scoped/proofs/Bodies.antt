@@ -1,17 +1,16 @@
 -- A body sets nothing of its contract, and starts with no variable of its own.
-use Rattle.std.proofs.Common.{◌≡◌, ◌⊎◌, inl, inr, ℕ, ◌==◌, Bool, true, false, List, [], ◌∷◌, map, ap, ◌∙◌, sym, subst, refl, eqb-true}
+use Rattle.std.proofs.Common.{◌≡◌, inl, inr, ℕ, ◌==◌, Bool, true, false, List, [], ◌∷◌, map, ap, ◌∙◌, sym, subst, refl, eqb-true}
 use Rattle.std.proofs.lemmas.Bool.{and_parts, or_cases}
 use Rattle.std.specs.List.{list_all, list_any}
 use Rattle.fsl_core.specs.declared.declaration.Proc.{Proc}
-use Rattle.fsl_core.specs.declared.scope.Scope.{Scope}
 use Rattle.fsl_core.specs.declared.scope.Sight.{Sight}
 use Rattle.fsl_core.specs.declared.scope.Sight.TheVariants as sight
 use Rattle.fsl_core.specs.Scopes.{is_settable, sight_at, kept, in_body, behind_requires, parameters_of}
 use Rattle.fsl_core.specs.logic.Paths.{stmt_of, all_sets}
 use Rattle.fsl_scoped.specs.Assertions.{is_shared}
-use Rattle.fsl_scoped.specs.Procedures.{BodiesKeepContracts, BodiesAreDeclared}
+use Rattle.fsl_scoped.specs.Procedures.{BodiesKeepContracts, BodiesAreDeclared, ContractsAreOutside}
 use Rattle.fsl_scoped.proofs.Binding.{asrt_binds}
-use Rattle.fsl_scoped.proofs.Parameters.{no_local, proc_fits, body_sight}
+use Rattle.fsl_scoped.proofs.Parameters.{no_local, parameters_outside, proc_fits, body_sight}
 use Rattle.fsl_scoped.proofs.Setting.{blocks_set_their_own}
 
 no_locals : (q : Proc) (slot : ℕ) → sight_at (behind_requires q) slot ≡ sight.Local → ⊥
@@ -55,3 +54,6 @@ bodies_keep_contracts procs q r slot scoped set =
 pub bodies_are_declared : BodiesAreDeclared
 bodies_are_declared procs q slot e =
     absurd (no_locals q slot (kept_local (sight_at (behind_requires q) slot) (sym (body_sight (behind_requires q) slot) ∙ e)))
+
+pub contracts_outside : ContractsAreOutside
+contracts_outside q = (asrt_binds q.pre).outside (parameters_of q) ∙ parameters_outside q

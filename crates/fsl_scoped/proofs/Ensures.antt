@@ -1,20 +1,20 @@
 -- An `ensures` sees its contract's variables, and the result where it speaks of it.
-use Rattle.std.proofs.Common.{◌≡◌, ℕ, ◌<◌, ◌+◌, ◌++◌, true, false, List, [], ◌∷◌, length, Some, ℤ, pos, slice_get, is_some, ap, ◌∙◌, sym, subst, refl, arith, length-append}
+use Rattle.std.proofs.Common.{◌≡◌, ℕ, ◌<◌, ◌+◌, ◌++◌, true, false, List, [], ◌∷◌, length, ℤ, pos, slice_get, is_some, ap, ◌∙◌, sym, refl, arith, length-append}
 use Rattle.fsl_core.specs.declared.declaration.Proc.{Proc}
 use Rattle.fsl_core.specs.declared.mode.Rung.TheVariants.{Plain}
 use Rattle.fsl_core.specs.declared.scope.Scope.{Scope}
 use Rattle.fsl_core.specs.declared.scope.Sight.{Sight}
 use Rattle.fsl_core.specs.declared.scope.Sight.TheVariants as sight
-use Rattle.fsl_core.specs.Scopes.{is_free, sight_at, in_ensures, behind_requires, asrt_scoped, proc_is_scoped, parameters_of, with_first, with_banks, no_variables, nothing_declared, with_sight}
+use Rattle.fsl_core.specs.Scopes.{is_free, sight_at, in_ensures, behind_requires, asrt_scoped, parameters_of}
 use Rattle.fsl_core.specs.logic.Assertions.{asrt_of}
-use Rattle.fsl_asserted.specs.Needs.{asks}
 use Rattle.fsl_scoped.specs.Assertions.{is_shared, Shares}
 use Rattle.fsl_scoped.specs.Procedures.{EnsuresAreSeen, EnsuresNeedNoResult, EnsuresMindNoResult}
 use Rattle.fsl_scoped.proofs.Lists.{room_long, last_behind, append_alike, append_front}
-use Rattle.fsl_scoped.proofs.Binding.{Later, asrt_binds}
+use Rattle.fsl_scoped.proofs.Binding.{asrt_binds}
 use Rattle.fsl_scoped.proofs.Alike.{Alike}
 use Rattle.fsl_scoped.proofs.Asking.{asrt_seen}
-use Rattle.fsl_scoped.proofs.Parameters.{ProcFits, proc_fits, held_within, parameters_outside}
+use Rattle.fsl_scoped.proofs.Bodies.{contracts_outside}
+use Rattle.fsl_scoped.proofs.Parameters.{ProcFits, proc_fits, held_within}
 use Rattle.fsl_scoped.proofs.Unsaid.{asrt_unsaid}
 
 long_behind : (xs ys : List ℤ) (r : ℤ) → length xs ≡ length ys → length (xs ++ r ∷ []) ≡ length (ys ++ r ∷ [])
@@ -41,9 +41,6 @@ shared_held s h e = let d : false ≡ true = sym (ap is_shared e) ∙ h in cc
 free_held : (s : Sight) → is_free s ≡ true → s ≡ sight.Kept → ⊥
 free_held s h e = let d : false ≡ true = sym (ap is_free e) ∙ h in cc
 
-outside : (procs : List Proc) (q : Proc) → ProcFits procs q → (behind_requires q).in_ensures ≡ false
-outside procs q fits = ((asrt_binds q.pre).later (parameters_of q) fits.pre).result ∙ parameters_outside q
-
 -- the variables are in front
 front : (procs : List Proc) (q : Proc) (xs : List ℤ) (r : ℤ) (slot : ℕ) → ProcFits procs q → length xs ≡ q.slots → (sight_at (behind_requires q) slot ≡ sight.Kept → ⊥)
     → slice_get (xs ++ r ∷ []) slot ≡ slice_get xs slot
@@ -54,7 +51,7 @@ without_result : (procs : List Proc) (q : Proc) (xs : List ℤ) (r : ℤ) → Pr
 without_result procs q xs r fits long = record {
   alike = λ slot s. front procs q xs r slot fits long (shared_held (sight_at (behind_requires q) slot) s);
   room = λ slot s. ap is_some (front procs q xs r slot fits long (free_held (sight_at (behind_requires q) slot) s));
-  last = λ h. absurd (let d : true ≡ false = sym h ∙ outside procs q fits in cc);
+  last = λ h. absurd (let d : true ≡ false = sym h ∙ contracts_outside q in cc);
 }
 
 turned : (scope : Scope) (xs ys : List ℤ) → scope.in_ensures ≡ false → Alike scope xs ys → Alike scope ys xs
@@ -77,6 +74,6 @@ ensures_need_no_result procs q t xs r n scoped long quiet e =
 pub ensures_mind_no_result : EnsuresMindNoResult
 ensures_mind_no_result procs q t xs r n scoped long quiet e =
     let fits = proc_fits procs q scoped in
-    let alike = turned (behind_requires q) (xs ++ r ∷ []) xs (outside procs q fits) (without_result procs q xs r fits long) in
+    let alike = turned (behind_requires q) (xs ++ r ∷ []) xs (contracts_outside q) (without_result procs q xs r fits long) in
     let x = asrt_seen t q.post (behind_requires q) Plain xs (xs ++ r ∷ []) n (stands procs q fits quiet) alike e in
     (x.need, x.is, x.same)

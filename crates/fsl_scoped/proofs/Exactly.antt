@@ -1,17 +1,16 @@
 -- Where a run has a value, it is the exact number.
-use Rattle.std.proofs.Common.{◌≡◌, ◌^◌, nat_lt, if◌then◌else◌, Bool, true, false, List, [], ◌∷◌, map, ℤ, pos, negsuc, neg_ℤ, ◌*ℤ◌, Option, Some, None, get_or, slice_get, ap, ◌∙◌, sym, subst, refl}
+use Rattle.std.proofs.Common.{◌≡◌, ◌^◌, nat_lt, if◌then◌else◌, Bool, true, false, List, [], ◌∷◌, map, ℤ, pos, negsuc, neg_ℤ, ◌*ℤ◌, Some, None, ap, ◌∙◌, sym, subst, refl}
 use Rattle.std.proofs.Math.IntN.{*ℤ-negsuc, *ℤ-one}
 use Rattle.std.proofs.lemmas.Option.{get_or_from_slice_get}
-use Rattle.fsl_core.specs.declared.expr.Cond.{Cond}
 use Rattle.fsl_core.specs.declared.expr.Cond.TheVariants as cond
 use Rattle.fsl_core.specs.declared.expr.Expr.{Expr}
 use Rattle.fsl_core.specs.declared.expr.Expr.TheOpen.{Expr-F}
 use Rattle.fsl_core.specs.declared.expr.Expr.TheViews.{roll-Expr}
 use Rattle.fsl_core.specs.declared.expr.Expr.TheFolds.{ind-Expr, map-Expr, fold-Part, fold-roll-Expr, fold_out-Part}
 use Rattle.fsl_core.specs.declared.expr.Part.{Part}
-use Rattle.fsl_core.specs.Values.{Value, with_value, in_range, plus_or_minus, sum_from, product_from, value_step, part_step, value_of, part_of, compared, holds_of}
+use Rattle.fsl_core.specs.Values.{Value, in_range, plus_or_minus, sum_from, product_from, value_step, part_step, value_of, part_of, compared}
 use Rattle.fsl_core.proofs.Seeing.{expressions_seen, conditions_seen}
-use Rattle.fsl_asserted.specs.Exact.{Number, exact_sum, exact_product, exact_step, exact_part, exact, exact_cond}
+use Rattle.fsl_asserted.specs.Exact.{Number, exact_sum, exact_product, exact_step, exact_part, exact}
 use Rattle.fsl_asserted.proofs.Asking.{some_is, value_asked}
 use Rattle.fsl_scoped.specs.Values.{ValuesAreExact, ConditionsAreExact, ReadsAreExact, TestsAreExact}
 
@@ -42,9 +41,9 @@ sum_is b v f each (p ∷ ps) xs sum x h =
     let i = value_asked ((v (b p)).1 xs) _ x h in
     let j = value_asked (in_range (plus_or_minus (v (b p)).0 sum i.value)) _ x i.then_is in
     let next : plus_or_minus (f (b p)).0 sum ((f (b p)).1 xs) ≡ j.value =
-        ap (λ (sign : Bool). plus_or_minus sign sum ((f (b p)).1 xs)) (sym part.sign)
-        ∙ ap (λ (z : ℤ). plus_or_minus (v (b p)).0 sum z) (part.number xs i.value i.is)
-        ∙ in_range_is (plus_or_minus (v (b p)).0 sum i.value) j.value j.is in
+    ap (λ (sign : Bool). plus_or_minus sign sum ((f (b p)).1 xs)) (sym part.sign)
+    ∙ ap (λ (z : ℤ). plus_or_minus (v (b p)).0 sum z) (part.number xs i.value i.is)
+    ∙ in_range_is (plus_or_minus (v (b p)).0 sum i.value) j.value j.is in
     ap (λ (z : ℤ). exact_sum xs z (map f (map b ps))) next ∙ sum_is b v f each ps xs j.value x j.then_is
 
 product_is : {X A : Type 0} (a : X → A) (v : A → Value) (f : A → Number) → ((x : X) → IsExact (v (a x)) (f (a x)))
@@ -54,7 +53,7 @@ product_is a v f each (e ∷ es) xs product x h =
     let i = value_asked (v (a e) xs) _ x h in
     let j = value_asked (in_range (product *ℤ i.value)) _ x i.then_is in
     let next : product *ℤ f (a e) xs ≡ j.value =
-        ap (λ (z : ℤ). product *ℤ z) (each e xs i.value i.is) ∙ in_range_is (product *ℤ i.value) j.value j.is in
+    ap (λ (z : ℤ). product *ℤ z) (each e xs i.value i.is) ∙ in_range_is (product *ℤ i.value) j.value j.is in
     ap (λ (z : ℤ). exact_product xs z (map f (map a es))) next ∙ product_is a v f each es xs j.value x j.then_is
 
 -- one layer, whose children a and b map to expressions and parts

@@ -1,5 +1,5 @@
 -- An assertion sets nothing but its binders.
-use Rattle.std.proofs.Common.{◌≡◌, ℕ, Bool, true, false, ◌&&◌, List, [], ◌∷◌, map, length, Option, Some, None, ℤ, slice_get, slice_set, if◌then◌else◌, ap, ◌∙◌, sym, subst, refl, length-set}
+use Rattle.std.proofs.Common.{◌≡◌, ℕ, Bool, true, false, ◌&&◌, List, [], ◌∷◌, map, length, Option, Some, ℤ, slice_get, slice_set, if◌then◌else◌, ap, ◌∙◌, sym, subst, refl, length-set}
 use Rattle.std.proofs.lemmas.Bool.{and_parts}
 use Rattle.std.specs.Ordering.{int_eq}
 use Rattle.fsl_core.specs.declared.assertion.Asrt.{Asrt}
@@ -15,7 +15,7 @@ use Rattle.fsl_core.specs.declared.scope.Scope.{Scope}
 use Rattle.fsl_core.specs.Scopes.{is_free, sight_at, reads, tests, Scoped, all_fit, in_turn, pat_fits, bound, asrt_step, asrt_scoped}
 use Rattle.fsl_meaning.specs.Heaps.{Heap, nothing, Truth, Claim, all_in}
 use Rattle.fsl_asserted.specs.Exact.{exact, exact_all, exact_cond}
-use Rattle.fsl_asserted.specs.Needs.{Need, need, Asks, only_if, positive, natural, matched, points_asked, bank_number, both_asked, all_asked, asks_step, asks}
+use Rattle.fsl_asserted.specs.Needs.{Need, need, Asks, only_if, positive, natural, matched, points_asked, bank_number, all_asked, asks_step, asks}
 use Rattle.fsl_asserted.proofs.Asking.{some_is, value_asked, if_asked}
 use Rattle.fsl_scoped.proofs.Lists.{get_other}
 use Rattle.fsl_scoped.proofs.Binding.{Binds, asrt_binds}

@@ -1,5 +1,5 @@
 -- What is seen at the start of a procedure: its parameters, as numbers or as banks.
-use Rattle.std.proofs.Common.{◌≡◌, ◌⊎◌, inl, inr, ℕ, zero, suc, ◌<◌, ◌≤◌, ◌==◌, nat_lt, nat_le, Bool, true, false, ◌&&◌, ◌||◌, if◌then◌else◌, List, [], ◌∷◌, map, length, get_or, slice_set, replicate, ap, ◌∙◌, sym, subst, refl, arith, lt-ltb, eqb-true, leb-true, ltb-true}
+use Rattle.std.proofs.Common.{◌≡◌, ◌⊎◌, inl, inr, ℕ, zero, suc, ◌<◌, ◌≤◌, ◌==◌, nat_lt, nat_le, Bool, true, false, ◌&&◌, if◌then◌else◌, List, [], ◌∷◌, map, length, get_or, replicate, ap, ◌∙◌, sym, subst, refl, arith, lt-ltb, eqb-true, leb-true, ltb-true}
 use Rattle.std.proofs.lemmas.Bool.{and_parts, or_from}
 use Rattle.std.specs.List.{list_any}
 use Rattle.fsl_core.specs.declared.declaration.Proc.{Proc}
@@ -8,7 +8,7 @@ use Rattle.fsl_core.specs.declared.scope.Sight.{Sight}
 use Rattle.fsl_core.specs.declared.scope.Sight.TheVariants as sight
 use Rattle.fsl_core.specs.Scopes.{is_number, is_free, sight_at, with_sight, with_first, with_banks, no_variables, nothing_declared, parameters_of, kept, in_body, in_ensures, behind_requires, has_room, proc_is_scoped, asrt_scoped, block_scoped}
 use Rattle.fsl_scoped.proofs.Lists.{set_cases}
-use Rattle.fsl_scoped.proofs.Binding.{Later, Binds, asrt_binds}
+use Rattle.fsl_scoped.proofs.Binding.{Later, asrt_binds}
 
 -- ---- sights of the first variables, and of banks among them
 
@@ -63,6 +63,7 @@ numbers_no_banks params (bank ∷ banks) scope slot l h =
     number : is_number (sight_at (bank_seen params bank scope) slot) ≡ true
     number = banks_cases params banks (bank_seen params bank scope) slot (λ (z : Sight). is_number z ≡ true → is_number (sight_at (bank_seen params bank scope) slot) ≡ true)
         (λ m k. absurd (let d : false ≡ true = k in cc)) (λ k. k) h
+
     by_test : (b : Bool) → (bank == slot) ≡ b → b ≡ false
     by_test false e = refl
     by_test true e =
@@ -70,7 +71,7 @@ numbers_no_banks params (bank ∷ banks) scope slot l h =
         let small : nat_lt slot params ≡ true = lt-ltb slot params l in
         let test : nat_lt bank params ≡ true = ap (λ (k : ℕ). nat_lt k params) same ∙ small in
         let set : is_number (sight_at (with_sight bank sight.Bank scope) slot) ≡ true =
-            subst (λ (b : Bool). is_number (sight_at (if b then with_sight bank sight.Bank scope else scope) slot) ≡ true) test number in
+        subst (λ (b : Bool). is_number (sight_at (if b then with_sight bank sight.Bank scope else scope) slot) ≡ true) test number in
         absurd (bank_no_number scope slot (subst (λ (k : ℕ). is_number (sight_at (with_sight k sight.Bank scope) slot) ≡ true) same set))
 
 pub record IsParameter (q : Proc) (slot : ℕ) : Type 0 where
@@ -80,7 +81,7 @@ pub record IsParameter (q : Proc) (slot : ℕ) : Type 0 where
 pub number_parameter : (q : Proc) (slot : ℕ) → is_number (sight_at (parameters_of q) slot) ≡ true → IsParameter q slot
 number_parameter q slot h =
     let l : slot < q.params = parameter_cases q slot (λ (z : Sight). is_number z ≡ true → slot < q.params)
-        (λ m k. m) (λ m k. m) (λ m k. absurd (let d : false ≡ true = k in cc)) (λ k. absurd (let d : false ≡ true = k in cc)) h in
+    (λ m k. m) (λ m k. m) (λ m k. absurd (let d : false ≡ true = k in cc)) (λ k. absurd (let d : false ≡ true = k in cc)) h in
     record { within = l; number = numbers_no_banks q.params q.banks (with_first q.params sight.Given (nothing_declared q.slots)) slot l h }
 
 pub no_local : (q : Proc) (slot : ℕ) → sight_at (parameters_of q) slot ≡ sight.Local → ⊥
@@ -163,11 +164,14 @@ start_number procs q slot fits h = by_test (is_free (sight_at (parameters_of q) 
   where
     later : Later (parameters_of q) (behind_requires q)
     later = (asrt_binds q.pre).later (parameters_of q) fits.pre
+
     seen : is_number (kept (sight_at (behind_requires q) slot)) ≡ true
     seen = sym (ap is_number (body_sight (behind_requires q) slot)) ∙ h
+
     freed : (sight_at (behind_requires q) slot ≡ sight.Free) ⊎ (sight_at (behind_requires q) slot ≡ sight.Bound) → ⊥
     freed (inl e) = let d : false ≡ true = sym (ap (λ (s : Sight). is_number (kept s)) e) ∙ seen in cc
     freed (inr e) = let d : false ≡ true = sym (ap (λ (s : Sight). is_number (kept s)) e) ∙ seen in cc
+
     by_test : (b : Bool) → is_free (sight_at (parameters_of q) slot) ≡ b → IsStart q slot
     by_test true e = absurd (freed (later.freed slot e))
     by_test false e = record {

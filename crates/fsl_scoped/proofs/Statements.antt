@@ -1,5 +1,5 @@
 -- What is seen behind statements, and where blocks inside of a statement stand.
-use Rattle.std.proofs.Common.{◌≡◌, ℕ, Bool, true, false, ◌&&◌, not, List, [], ◌∷◌, map, Option, Some, None, ap, ◌∙◌, sym, subst, refl}
+use Rattle.std.proofs.Common.{◌≡◌, ℕ, Bool, true, false, ◌&&◌, not, List, [], ◌∷◌, Option, Some, None, ap, ◌∙◌, sym, subst, refl}
 use Rattle.std.proofs.lemmas.Bool.{and_parts}
 use Rattle.std.specs.List.{list_all}
 use Rattle.fsl_core.specs.declared.act.Act.{Act}
@@ -11,7 +11,7 @@ use Rattle.fsl_core.specs.declared.declaration.Proc.{Proc}
 use Rattle.fsl_core.specs.declared.scope.Scope.{Scope}
 use Rattle.fsl_core.specs.declared.scope.Sight.{Sight}
 use Rattle.fsl_core.specs.declared.scope.Sight.TheVariants as sight
-use Rattle.fsl_core.specs.Scopes.{is_free, is_settable, sight_at, in_loop, reads, inst_reads, tests, passes, steps_read, step_reads, update_reads, Scoped, still, all_fit, behind_all, sets, sets_result, declares_bank, asrt_scoped, act_step, stmt_step, act_scoped, stmt_scoped, block_scoped, scope_after}
+use Rattle.fsl_core.specs.Scopes.{is_free, is_settable, sight_at, in_loop, reads, inst_reads, tests, passes, steps_read, step_reads, update_reads, Scoped, still, sets, sets_result, declares_bank, asrt_scoped, act_step, stmt_step, act_scoped, stmt_scoped, block_scoped, scope_after}
 use Rattle.fsl_core.proofs.Sights.{stmt_is}
 use Rattle.fsl_scoped.specs.Assertions.{is_shared}
 use Rattle.fsl_scoped.specs.Statements.{StatementsAreScoped, BranchesFit, LoopsFit, SightsStay, FlagsStay}
@@ -31,7 +31,7 @@ pub branches_fit : BranchesFit
 branches_fit procs stmt cond a b scope e fit =
     let d = stmt_as procs stmt (Act-F.If cond a b) e in
     let one : (tests scope cond && ((block_scoped procs a).fits scope && (block_scoped procs b).fits scope)) ≡ true =
-        sym (ap (λ (s : Scoped). s.fits scope) d) ∙ fit in
+    sym (ap (λ (s : Scoped). s.fits scope) d) ∙ fit in
     let tested = and_parts (tests scope cond) ((block_scoped procs a).fits scope && (block_scoped procs b).fits scope) one in
     let both = and_parts ((block_scoped procs a).fits scope) ((block_scoped procs b).fits scope) tested.1 in
     (tested.0, both.0, both.1, ap (λ (s : Scoped). s.behind scope) d)
@@ -40,7 +40,7 @@ pub loops_fit : LoopsFit
 loops_fit procs stmt cond inv body scope e fit =
     let d = stmt_as procs stmt (Act-F.While cond inv body) e in
     let one : (tests scope cond && ((asrt_scoped inv).fits scope && (block_scoped procs body).fits (in_loop scope))) ≡ true =
-        sym (ap (λ (s : Scoped). s.fits scope) d) ∙ fit in
+    sym (ap (λ (s : Scoped). s.fits scope) d) ∙ fit in
     let tested = and_parts (tests scope cond) ((asrt_scoped inv).fits scope && (block_scoped procs body).fits (in_loop scope)) one in
     let both = and_parts ((asrt_scoped inv).fits scope) ((block_scoped procs body).fits (in_loop scope)) tested.1 in
     (tested.0, both.0, both.1, ap (λ (s : Scoped). s.behind scope) d)

@@ -1,5 +1,5 @@
 -- What doesn't speak of the result stands outside of `ensures` too.
-use Rattle.std.proofs.Common.{◌≡◌, ◌⊎◌, inl, inr, ℕ, Bool, true, false, ◌&&◌, ◌||◌, List, [], ◌∷◌, map, slice_set, get_or, ap, ◌∙◌, sym, subst, refl}
+use Rattle.std.proofs.Common.{◌≡◌, inl, inr, ℕ, Bool, true, false, ◌&&◌, ◌||◌, List, [], ◌∷◌, map, slice_set, get_or, ap, ◌∙◌, sym, subst, refl}
 use Rattle.std.proofs.lemmas.Bool.{and_parts, and_from, or_parts, or_cases, or_left, or_right}
 use Rattle.std.specs.List.{list_all, list_any}
 use Rattle.fsl_core.specs.declared.assertion.Asrt.{Asrt}
@@ -13,7 +13,7 @@ use Rattle.fsl_core.specs.declared.expr.Cond.{Cond}
 use Rattle.fsl_core.specs.declared.expr.Cond.TheVariants as cond
 use Rattle.fsl_core.specs.declared.expr.Expr.{Expr}
 use Rattle.fsl_core.specs.declared.expr.Expr.TheOpen.{Expr-F}
-use Rattle.fsl_core.specs.declared.expr.Expr.TheViews.{out-Expr, roll-Expr}
+use Rattle.fsl_core.specs.declared.expr.Expr.TheViews.{out-Expr}
 use Rattle.fsl_core.specs.declared.expr.Expr.TheFolds.{ind-Expr, map-Expr, fold-Part, fold-roll-Expr, fold_out-Expr, fold_out-Part}
 use Rattle.fsl_core.specs.declared.expr.Part.{Part}
 use Rattle.fsl_core.specs.declared.scope.Scope.{Scope}
@@ -126,9 +126,9 @@ bank_quiet from to same e h =
 
 argument_quiet : (from to : Scope) → SameSights from to → (e : Expr) → inst_argument_fits from e ≡ true → (expr_of e).says ≡ false → inst_argument_fits to e ≡ true
 argument_quiet from to same e h quiet = elim (or_cases (reads from e) (is_bank_alone from e) h) [
-    | inl r ↦ or_left (reads to e) (is_bank_alone to e) (expr_quiet from to same e r quiet)
-    | inr b ↦ or_right (reads to e) (is_bank_alone to e) (bank_quiet from to same e b)
-  ]
+  | inl r ↦ or_left (reads to e) (is_bank_alone to e) (expr_quiet from to same e r quiet)
+  | inr b ↦ or_right (reads to e) (is_bank_alone to e) (bank_quiet from to same e b)
+]
 
 inst_quiet : (from to : Scope) → SameSights from to → (es : List Expr) → list_all (inst_argument_fits from) es ≡ true → list_any (λ e. e.says) (map expr_of es) ≡ false
     → list_all (inst_argument_fits to) es ≡ true

@@ -20,6 +20,10 @@ BodiesKeepContracts =
 abbrev pub BodiesAreDeclared : Type 0
 BodiesAreDeclared = (procs : List Proc) (q : Proc) → AreDeclared (in_body (behind_requires q)) 0
 
+-- neither `requires` nor the body speaks of a result
+abbrev pub ContractsAreOutside : Type 0
+ContractsAreOutside = (q : Proc) → (behind_requires q).in_ensures ≡ false
+
 -- the result stands behind the variables
 abbrev pub EnsuresAreSeen : Type 0
 EnsuresAreSeen =

@@ -2,7 +2,7 @@
 ghost use Rattle.fsl_scoped.specs.Arguments.{ArgumentsAreExact, StartsAreSeen};
 ghost use Rattle.fsl_scoped.specs.Assertions.{AssertionsAreSeen, BindersAreFree};
 ghost use Rattle.fsl_scoped.specs.Own.{BlocksSetTheirOwn, LocalsAreDeclared};
-ghost use Rattle.fsl_scoped.specs.Procedures.{BodiesKeepContracts, BodiesAreDeclared, EnsuresAreSeen, EnsuresNeedNoResult, EnsuresMindNoResult};
+ghost use Rattle.fsl_scoped.specs.Procedures.{BodiesKeepContracts, BodiesAreDeclared, ContractsAreOutside, EnsuresAreSeen, EnsuresNeedNoResult, EnsuresMindNoResult};
 ghost use Rattle.fsl_scoped.specs.Statements.{StatementsAreScoped, BranchesFit, LoopsFit, SightsStay, FlagsStay};
 ghost use Rattle.fsl_scoped.specs.Values.{ValuesAreExact, ConditionsAreExact, ReadsAreExact, TestsAreExact};
 
@@ -35,6 +35,7 @@ pub fn statements()
 pub fn bodies()
     ensures contracts { BodiesKeepContracts }
     ensures declared { BodiesAreDeclared }
+    ensures outside { ContractsAreOutside }
 {}
 
 /// What is passed to a procedure, and what its code reads of it.
