@@ -1,1 +1,10 @@
+pub mod Bounded
+pub mod Cells
+pub mod Cuts
+pub mod Cutting
+pub mod Filled
+pub mod Fronts
+pub mod Given
 pub mod Heaps
+pub mod Kept
+pub mod Satisfied

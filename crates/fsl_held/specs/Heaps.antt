@@ -1,13 +1,12 @@
 -- What a thread has, read as what the laws of rules speak of: the pieces of a list as a heap, as what is so and as what
 -- is known. What a list says of a cell, a part or a bank is what its first piece that speaks of it says.
-use Rattle.std.specs.Prelude.{ℕ, ◌≡◌, ◌+◌, ◌==◌, Bool, true, false, ◌&&◌, List, [], ◌∷◌, Option, Some, None, ℤ, pos, negsuc, if◌then◌else◌}
+use Rattle.std.specs.Prelude.{ℕ, ◌==◌, Bool, true, false, ◌&&◌, List, [], ◌∷◌, Option, Some, None, ℤ, pos, negsuc, if◌then◌else◌}
 use Rattle.std.specs.Ordering.{int_eq}
 use Rattle.fsl_core.specs.declared.mode.Rung.{Rung}
 use Rattle.fsl_core.specs.declared.mode.Rung.TheVariants.{Plain, Up, Down, Msg}
-use Rattle.fsl_meaning.specs.Heaps.{Key, Cell, Permission, Tokens, Bank, Heap, Truth, Claim, IsInit, MayWrite, MayRead, MayUpdate, Ground, KnowsMore, Agrees}
-use Rattle.fsl_own.specs.Owning.{Resource}
+use Rattle.fsl_meaning.specs.Heaps.{Cell, Permission, Tokens, Bank, Heap, Truth, Claim, IsInit, MayWrite, MayRead, MayUpdate, Ground, KnowsMore, Agrees}
 use Rattle.fsl_own.specs.Owning.{Resource as resource}
-use Rattle.fsl_own.specs.Atoms.{Atom, Points, Init, Rel, Acq, RmwAcq, Tok, Auth}
+use Rattle.fsl_own.specs.Atoms.{Atom, Points, Init, Rel, Acq, RmwAcq, Auth}
 use Rattle.fsl_good.specs.Pieces.{Level, AtPlain, AtUp, AtDown, Piece, demand_at}
 
 -- ---- a heap

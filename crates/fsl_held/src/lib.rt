@@ -2,5 +2,4 @@
 //! that they satisfy an assertion.
 #![tactic(auto)]
 
-/// Nothing so far.
-pub fn nothing() {}
+pub mod laws;
