@@ -149,7 +149,7 @@ turn_shares u p zs turned = record {
   alike = λ k shared. turn_alike u p zs k (list_any (λ s. s == k) (sets_of u p)) refl turned shared;
 }
 
-number_shared : (s : Sight) → is_number s ≡ true → is_shared s ≡ true
+pub number_shared : (s : Sight) → is_number s ≡ true → is_shared s ≡ true
 number_shared s h = or_left (is_number s) (is_bank s) h
 
 -- the body, or what comes to the loop, gives the invariant
@@ -258,11 +258,11 @@ turn : {Q : List ℤ → Type 0} (u : Activation) (m : ℕ) (p : Loop u Q) (xs :
 turn u m p xs ys env walks runs returns next head true e = turns_round u m p xs ys env walks returns (turns_again u m p next) head e
 turn u m p xs ys env walks runs returns next head false e = ends_turning u m p xs ys env runs head e
 
-runs_less : {Q : List ℤ → Type 0} {base : List Piece} {under : Heap} {stmts : List Stmt} {scope : Scope} (after : Ends) (u : Activation) (m k : ℕ) → k ≤ m
+pub runs_less : {Q : List ℤ → Type 0} {base : List Piece} {under : Heap} {stmts : List Stmt} {scope : Scope} (after : Ends) (u : Activation) (m k : ℕ) → k ≤ m
     → Runs u m after stmts scope Q base under → Runs u k after stmts scope Q base under
 runs_less after u m k less runs j le = runs j (omega (arith, less, le))
 
-returns_less : {Q : List ℤ → Type 0} {base : List Piece} {under : Heap} (u : Activation) (m k : ℕ) → k ≤ m → Returns u m Q base under → Returns u k Q base under
+pub returns_less : {Q : List ℤ → Type 0} {base : List Piece} {under : Heap} (u : Activation) (m k : ℕ) → k ≤ m → Returns u m Q base under → Returns u k Q base under
 returns_less u m k less returns j le = returns j (omega (arith, less, le))
 
 -- the head of the loop, as long as there are moves

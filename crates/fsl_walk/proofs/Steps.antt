@@ -21,7 +21,7 @@ use Rattle.fsl_core.specs.Scopes as scopes
 use Rattle.fsl_core.specs.Verdicts.{End, derived, failed as fails_at}
 use Rattle.fsl_core.specs.WellFormed.{act_fits, stmt_fits}
 use Rattle.fsl_core.specs.WellFormed as fitting
-use Rattle.fsl_core.specs.logic.States.{State, Branches, Rule, goes, fails, followed}
+use Rattle.fsl_core.specs.logic.States.{Env, State, Branches, Rule, ◌>>=◌, here, goes, fails, followed}
 use Rattle.fsl_core.specs.logic.Paths.{Ends, each, Meaning, Reading, act_step, stmt_step, stmt_of}
 use Rattle.fsl_lin.specs.Numbers.{Numbers}
 use Rattle.fsl_meaning.specs.Means.{Grows}
@@ -102,6 +102,10 @@ each_followed at f after (goes x s ∷ bs) d =
     let both = each_more at after (f x s) (followed bs f) d in
     derived_both (each at (f x s) after) (each at bs (λ y t. each at (f y t) after)) both.0 (each_followed at f after bs both.1)
 each_followed at f after (fails k ∷ bs) d = d
+
+-- a rule that begins with the terms of the variables
+pub each_here : {Y : Type 0} (at : Span) (f : Env → Rule Y) (after : Y → Ends) (s : State) → AllDerived (each at ((here >>= f) s) after) → AllDerived (each at (f s.env s) after)
+each_here at f after s d = (each_more at after (f s.env s) [] d).0
 
 -- ---- one level of a statement
 

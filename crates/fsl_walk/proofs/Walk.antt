@@ -1,0 +1,225 @@
+-- The walk: statements whose paths are derived run well, whatever comes after them, by the number of moves that are left.
+use Rattle.std.proofs.Common.{◌≡◌, ℕ, zero, suc, ◌<◌, ◌≤◌, Bool, true, false, ◌&&◌, if◌then◌else◌, List, [], ◌∷◌, ◌++◌, map, Option, Some, None, ℤ, refl, sym, ap, subst, ◌∙◌, arith}
+use Rattle.std.specs.List.{list_all}
+use Rattle.std.proofs.lemmas.Bool.{and_parts, and_from}
+use Rattle.fsl_base.specs.declared.span.Span.{Span}
+use Rattle.fsl_core.specs.declared.act.Act.{Act}
+use Rattle.fsl_core.specs.declared.act.Act.TheOpen.{Act-F}
+use Rattle.fsl_core.specs.declared.act.Act.TheFolds.{map-Act, fold_out-Stmt}
+use Rattle.fsl_core.specs.declared.act.Act.TheViews.{out-Act}
+use Rattle.fsl_core.specs.declared.act.Stmt.{Stmt}
+use Rattle.fsl_core.specs.declared.assertion.Asrt.{Asrt}
+use Rattle.fsl_core.specs.declared.expr.Cond.{Cond}
+use Rattle.fsl_core.specs.declared.mode.Mode.TheVariants.{Na}
+use Rattle.fsl_core.specs.declared.scope.Scope.{Scope}
+use Rattle.fsl_core.specs.Programs.{Program}
+use Rattle.fsl_core.specs.Moves.{running, with_stmts, branching, act_move}
+use Rattle.fsl_core.specs.Scopes.{Scoped, reads, tests, is_settable, sight_at, is_number, passes, asrt_scoped, act_scoped, stmt_scoped, block_scoped, scope_after, in_loop, all_fit}
+use Rattle.fsl_core.specs.Scopes as scopes
+use Rattle.fsl_core.specs.Values.{holds_of}
+use Rattle.fsl_core.specs.WellFormed.{act_fits, stmt_fits, asrt_fits, is_par_size, child_fits}
+use Rattle.fsl_core.specs.WellFormed as fitting
+use Rattle.fsl_core.specs.logic.States.{State}
+use Rattle.fsl_core.specs.logic.Terms.{expr_of}
+use Rattle.fsl_core.specs.logic.Deciding.{cond_of, decided}
+use Rattle.fsl_core.specs.logic.Producing.{chosen}
+use Rattle.fsl_core.specs.logic.Assertions.{asrt_of}
+use Rattle.fsl_core.specs.logic.Slots.{past}
+use Rattle.fsl_core.specs.logic.Paths.{Ends, each, Meaning, block, all_sets, act_step, stmt_of, give_inv, body_ends, behind_ends, while_meaning, if_meaning}
+use Rattle.fsl_lin.specs.Numbers.{Numbers}
+use Rattle.fsl_meaning.specs.Heaps.{Heap}
+use Rattle.fsl_meaning.specs.States.{All, Fits}
+use Rattle.fsl_asserted.specs.Exact.{exact_cond}
+use Rattle.fsl_kept.proofs.Calls.{branch_fits, give_inv_fits}
+use Rattle.fsl_good.specs.Pieces.{Piece}
+use Rattle.fsl_held.specs.Heaps.{heap_of, ground_of, Kept}
+use Rattle.fsl_scoped.proofs.Exactly.{tests_exact}
+use Rattle.fsl_scoped.proofs.Setting.{locals_are_declared}
+use Rattle.fsl_scoped.proofs.Statements.{statements_scoped, sights_stay, flags_stay}
+use Rattle.fsl_walk.specs.Covered.{covers_step, covers}
+use Rattle.fsl_walk.specs.Stances.{AllDerived, Activation, reading, config_of, IsGood, IsGoodMove, Stance, Matches, Runs, Returns}
+use Rattle.fsl_walk.specs.Walks.{IsDerived, AreDeclared, SeesMore, IsClosed, Walks, ParMoves}
+use Rattle.fsl_walk.proofs.Slots.{sees_more, closed_left, closed_right}
+use Rattle.fsl_walk.proofs.Rounds.{give_parts}
+use Rattle.fsl_walk.proofs.Steps.{Landed, each_lands, each_here, derived_left, derived_right, act_of, meaning_of, stmt_folded, fit_of, act_covers, cover_of, good_running}
+use Rattle.fsl_walk.proofs.Locals.{At, frame_of, line_self, set_moves, assert_moves, print_moves, alloc_moves, load_moves, store_moves, free_moves}
+use Rattle.fsl_walk.proofs.Loops.{Loop, good_branching, runs_less, returns_less, loop_moves, number_shared}
+use Rattle.fsl_walk.proofs.Calling.{return_moves, call_moves}
+
+-- ---- one level of an act
+
+abbrev scoped_as : Activation → Act-F Act Stmt → Scoped
+scoped_as u l = scopes.act_step u.program.procs (map-Act Act Stmt Scoped Scoped (act_scoped u.program.procs) (stmt_scoped u.program.procs) l)
+
+abbrev fits_as : Activation → Act-F Act Stmt → Bool
+fits_as u l = fitting.act_step u.program (map-Act Act Stmt Bool Bool (act_fits u.program) (stmt_folded u.program) l)
+
+abbrev covered_as : Act-F Act Stmt → Bool
+covered_as l = covers_step (map-Act Act Stmt Bool Bool act_covers covers l)
+
+abbrev meant_as : Activation → Act-F Act Stmt → Span → Meaning
+meant_as u l at = act_step (reading u) (map-Act Act Stmt (Span → Meaning) Meaning (act_of (reading u)) (stmt_of (reading u)) l) at
+
+-- what is so of each statement of a block is so of the block
+all_mapped : (f g : Stmt → Bool) → ((stmt : Stmt) → f stmt ≡ g stmt) → (stmts : List Stmt) → list_all (λ b. b) (map f stmts) ≡ true → list_all g stmts ≡ true
+all_mapped f g same [] h = refl
+all_mapped f g same (stmt ∷ stmts) h =
+    let both = and_parts (f stmt) (list_all (λ b. b) (map f stmts)) h in
+    and_from (g stmt) (list_all g stmts) (sym (same stmt) ∙ both.0) (all_mapped f g same stmts both.1)
+
+block_fits : (p : Program) (stmts : List Stmt) → list_all (λ b. b) (map (stmt_folded p) stmts) ≡ true → list_all (stmt_fits p) stmts ≡ true
+block_fits p stmts h = all_mapped (stmt_folded p) (stmt_fits p) (fold_out-Stmt Bool Bool (fitting.act_step p) (λ stmt. stmt.act)) stmts h
+
+block_covered : (stmts : List Stmt) → list_all (λ b. b) (map covers stmts) ≡ true → list_all covers stmts ≡ true
+block_covered stmts h = all_mapped covers covers (λ stmt. refl) stmts h
+
+-- ---- blocks
+
+abbrev Below : ℕ → Type 1
+Below m = (k : ℕ) → k ≤ m → (w : Activation) → IsDerived w.program → Walks w k
+
+if_moves : {Q : List ℤ → Type 0} {base : List Piece} {under : Heap} {xs : List Piece} {slots env : List ℤ} {v : Numbers} {s : State}
+    (u : Activation) (m declared : ℕ) (scope : Scope) (after : Ends) (stmt : Stmt) (rest : List Stmt) (c : Cond) (a b : List Stmt) (at : Span) → Walks u m
+    → tests scope c ≡ true → (block_scoped u.program.procs a).fits scope ≡ true → (block_scoped u.program.procs b).fits scope ≡ true → scope.in_ensures ≡ false
+    → list_all (stmt_fits u.program) a ≡ true → list_all (stmt_fits u.program) b ≡ true → list_all covers a ≡ true → list_all covers b ≡ true → AreDeclared scope declared
+    → IsClosed Q (all_sets (map (stmt_of (reading u)) a)) → IsClosed Q (all_sets (map (stmt_of (reading u)) b)) → Runs u m after rest scope Q base under → Returns u m Q base under
+    → At scope Q base under xs slots env v s
+    → AllDerived ((if_meaning (cond_of expr_of c) (map (stmt_of (reading u)) a) (map (stmt_of (reading u)) b) at).ends declared s after)
+    → IsGoodMove u m (act_move u.program (Act-F.If c a b) stmt (frame_of u rest env) u.below) xs
+if_moves {Q = Q} {base = base} {under = under} {xs = xs} {slots = slots} {env = env} {v = v} {s = s} u m declared scope after stmt rest c a b at walks test fits_a fits_b out well_a well_b covered_a covered_b are closed_a closed_b runs returns there d =
+    let landed = each_lands at (λ holds t. block (chosen (map (stmt_of (reading u)) a) (map (stmt_of (reading u)) b) holds) declared t after) (branch_fits c there.stance.fits)
+            (each_here at (decided (cond_of expr_of c)) (λ holds t. block (chosen (map (stmt_of (reading u)) a) (map (stmt_of (reading u)) b) holds) declared t after) s d) in
+    good_branching u m (holds_of c env) (λ h. running (with_stmts ((if h then a else b) ++ rest) (frame_of u rest env)) u.below) xs (λ h is.
+    goes landed h (landed.is.0 ∙ tests_exact scope env slots there.matches.sees c h test is))
+  where
+    goes : (l : Landed s.next v (λ b t w. (b ≡ exact_cond c slots) × Fits slots (All (ground_of xs) there.stance.mine) w t) (λ holds t. block (chosen (map (stmt_of (reading u)) a) (map (stmt_of (reading u)) b) holds) declared t after))
+        → (h : Bool) → l.gives ≡ h → IsGood u m (config_of u ((if h then a else b) ++ rest) env) xs
+    goes l true e =
+        walks a scope scope declared rest after Q base under fits_a out well_a covered_a are (λ k number. number) closed_a runs returns xs slots env l.numbers l.state there.kept
+        (record { mine = there.stance.mine; fits = l.is.1; parts = there.stance.parts }) there.matches there.holds
+        (subst (λ (h : Bool). AllDerived (block (chosen (map (stmt_of (reading u)) a) (map (stmt_of (reading u)) b) h) declared l.state after)) e l.derived)
+    goes l false e =
+        walks b scope scope declared rest after Q base under fits_b out well_b covered_b are (λ k number. number) closed_b runs returns xs slots env l.numbers l.state there.kept
+        (record { mine = there.stance.mine; fits = l.is.1; parts = there.stance.parts }) there.matches there.holds
+        (subst (λ (h : Bool). AllDerived (block (chosen (map (stmt_of (reading u)) a) (map (stmt_of (reading u)) b) h) declared l.state after)) e l.derived)
+
+while_moves : {Q : List ℤ → Type 0} {base : List Piece} {under : Heap} {xs : List Piece} {slots env : List ℤ} {v : Numbers} {s : State}
+    (u : Activation) (m declared : ℕ) (scope : Scope) (after : Ends) (stmt : Stmt) (rest : List Stmt) (c : Cond) (inv : Asrt) (body : List Stmt) → ((k : ℕ) → k ≤ m → Walks u k)
+    → out-Act stmt.act ≡ Act-F.While c inv body → tests scope c ≡ true → (asrt_scoped inv).fits scope ≡ true → (block_scoped u.program.procs body).fits (in_loop scope) ≡ true → scope.in_ensures ≡ false
+    → list_all (stmt_fits u.program) body ≡ true → list_all covers body ≡ true → AreDeclared scope declared
+    → IsClosed Q (all_sets (map (stmt_of (reading u)) body)) → Runs u m after rest scope Q base under → Returns u m Q base under
+    → At scope Q base under xs slots env v s
+    → AllDerived ((while_meaning (cond_of expr_of c) (asrt_of inv) (map (stmt_of (reading u)) body) stmt.span).ends declared s after)
+    → IsGoodMove u m (act_move u.program (Act-F.While c inv body) stmt (frame_of u rest env) u.below) xs
+while_moves {Q = Q} {base = base} {under = under} {xs = xs} {slots = slots} {env = env} u m declared scope after stmt rest c inv body walks is test speaks fits out well covered are closed runs returns there d =
+    let ms = map (stmt_of (reading u)) body in
+    let turns = λ (t : State). body_ends (cond_of expr_of c) (asrt_of inv) ms stmt.span declared t in
+    let ends = λ (t : State). behind_ends (cond_of expr_of c) (asrt_of inv) ms stmt.span declared after t in
+    let landed = each_lands stmt.span (λ x t. turns t ++ ends t) (give_inv_fits inv there.stance.fits) d in
+    let gives = landed.is.gives in
+    let p : Loop u Q = record {
+          stmt = stmt; cond = c; inv = inv; body = body; rest = rest; after = after; declared = declared; scope = scope; base = base; under = under; is = is; tests = test; speaks = speaks; scoped = fits;
+          outside = out; well = well; covered = covered; are_declared = are; closed = closed; start = xs; slots = slots; numbers = landed.numbers; state = landed.state; left = gives.left;
+          frame = gives.fits; kept = there.kept; holds = there.holds;
+          turns = derived_left (turns landed.state) (ends landed.state) landed.derived; ends = derived_right (turns landed.state) (ends landed.state) landed.derived;
+        } in
+    loop_moves u m p walks runs returns env gives.need there.possible there.matches gives.is gives.known
+    (give_parts there.stance.mine gives.left gives.need.heap under (heap_of xs) gives.parts there.stance.parts)
+
+-- ---- every act
+
+walk_act : {Q : List ℤ → Type 0} {base : List Piece} {under : Heap} {xs : List Piece} {slots env : List ℤ} {v : Numbers} {s : State}
+    (u : Activation) (m declared : ℕ) (scope : Scope) (after : Ends) (stmt : Stmt) (rest : List Stmt) (l : Act-F Act Stmt) → IsDerived u.program → Below m → ParMoves u m
+    → out-Act stmt.act ≡ l → (scoped_as u l).fits scope ≡ true → scope.in_ensures ≡ false → fits_as u l ≡ true → covered_as l ≡ true → AreDeclared scope declared
+    → IsClosed Q (meant_as u l stmt.span).sets → Runs u m after rest ((scoped_as u l).behind scope) Q base under → Returns u m Q base under → At scope Q base under xs slots env v s
+    → AllDerived ((meant_as u l stmt.span).ends declared s after) → IsGoodMove u m (act_move u.program l stmt (frame_of u rest env) u.below) xs
+walk_act u m declared scope after stmt rest (Act-F.Set slot e) ok below par is fits out well covered are closed runs returns there d =
+    set_moves u m after stmt rest slot e stmt.span (and_parts (is_settable (sight_at scope slot)) (reads scope e) fits).1 closed runs there d
+walk_act u m declared scope after stmt rest (Act-F.AllocNa slot) ok below par is fits out well covered are closed runs returns there d =
+    alloc_moves u m after stmt rest slot stmt.span closed runs there d
+walk_act u m declared scope after stmt rest (Act-F.Free e) ok below par is fits out well covered are closed runs returns there d =
+    free_moves u m after stmt rest e stmt.span fits runs there d
+walk_act u m declared scope after stmt rest (Act-F.Load slot Na e) ok below par is fits out well covered are closed runs returns there d =
+    load_moves u m after stmt rest slot e stmt.span (and_parts (is_settable (sight_at scope slot)) (reads scope e) fits).1 closed runs there d
+walk_act u m declared scope after stmt rest (Act-F.Store Na e f) ok below par is fits out well covered are closed runs returns there d =
+    let both = and_parts (reads scope e) (reads scope f) fits in
+    store_moves u m after stmt rest e f stmt.span both.0 both.1 runs there d
+walk_act u m declared scope after stmt rest (Act-F.Call None proc args) ok below par is fits out well covered are closed runs returns there d =
+    call_moves u m after stmt rest None proc args stmt.span (below m (line_self m)) ok fits out well closed runs there d
+walk_act u m declared scope after stmt rest (Act-F.Call (Some slot) proc args) ok below par is fits out well covered are closed runs returns there d =
+    call_moves u m after stmt rest (Some slot) proc args stmt.span (below m (line_self m)) ok (and_parts (is_settable (sight_at scope slot)) (passes u.program.procs scope proc args) fits).1 out well closed runs there d
+walk_act {Q = Q} {base = base} {under = under} {xs = xs} {slots = slots} {env = env} {v = v} {s = s} u m declared scope after stmt rest (Act-F.Par calls) ok below par is fits out well covered are closed runs returns there d =
+    par calls stmt scope rest after Q base under stmt.span fits out (and_parts _ (list_all (child_fits u.program) calls) well).1 runs xs slots env v s there.possible there.kept there.stance there.matches there.holds d
+walk_act {Q = Q} u m declared scope after stmt rest (Act-F.If c a b) ok below par is fits out well covered are closed runs returns there d =
+    let scoped = and_parts (tests scope c) ((block_scoped u.program.procs a).fits scope && (block_scoped u.program.procs b).fits scope) fits in
+    let blocks = and_parts ((block_scoped u.program.procs a).fits scope) ((block_scoped u.program.procs b).fits scope) scoped.1 in
+    let wells = and_parts (list_all (λ x. x) (map (stmt_folded u.program) a)) (list_all (λ x. x) (map (stmt_folded u.program) b)) well in
+    let covereds = and_parts (list_all (λ x. x) (map covers a)) (list_all (λ x. x) (map covers b)) covered in
+    let sets_a = all_sets (map (stmt_of (reading u)) a) in
+    let sets_b = all_sets (map (stmt_of (reading u)) b) in
+    if_moves u m declared scope after stmt rest c a b stmt.span (below m (line_self m) u ok) scoped.0 blocks.0 blocks.1 out (block_fits u.program a wells.0) (block_fits u.program b wells.1)
+    (block_covered a covereds.0) (block_covered b covereds.1) are (closed_left Q sets_a sets_b closed) (closed_right Q sets_a sets_b closed) runs returns there d
+walk_act u m declared scope after stmt rest (Act-F.While c inv body) ok below par is fits out well covered are closed runs returns there d =
+    let scoped = and_parts (tests scope c) ((asrt_scoped inv).fits scope && (block_scoped u.program.procs body).fits (in_loop scope)) fits in
+    let both = and_parts ((asrt_scoped inv).fits scope) ((block_scoped u.program.procs body).fits (in_loop scope)) scoped.1 in
+    let wells = and_parts (asrt_fits u.program.invs inv true) (list_all (λ x. x) (map (stmt_folded u.program) body)) well in
+    while_moves u m declared scope after stmt rest c inv body (λ k le. below k le u ok) is scoped.0 both.0 both.1 out (block_fits u.program body wells.1) (block_covered body covered) are closed runs returns there d
+walk_act u m declared scope after stmt rest (Act-F.Assert c) ok below par is fits out well covered are closed runs returns there d =
+    assert_moves u m after stmt rest c stmt.span fits runs there d
+walk_act u m declared scope after stmt rest (Act-F.Print e) ok below par is fits out well covered are closed runs returns there d =
+    print_moves u m after stmt rest e stmt.span runs there d
+walk_act u m declared scope after stmt rest (Act-F.Return e) ok below par is fits out well covered are closed runs returns there d =
+    return_moves u m stmt rest e stmt.span (and_parts _ (reads scope e) fits).1 returns there d
+walk_act u m declared scope after stmt rest _ ok below par is fits out well covered are closed runs returns there d = absurd (let e : false ≡ true = covered in cc)
+
+-- ---- statements one after the other
+
+-- what comes after a statement of a block: the others, and what comes after the block
+rest_runs : {Q : List ℤ → Type 0} {base : List Piece} {under : Heap}
+    (u : Activation) (m k declared : ℕ) (scope behind : Scope) (stmt : Stmt) (stmts rest : List Stmt) (after : Ends) → ((j : ℕ) → j ≤ k → Walks u j) → k ≤ m
+    → (block_scoped u.program.procs (stmt ∷ stmts)).fits scope ≡ true → scope.in_ensures ≡ false → list_all (stmt_fits u.program) stmts ≡ true → list_all covers stmts ≡ true
+    → AreDeclared scope declared → SeesMore behind scope → IsClosed Q (all_sets (map (stmt_of (reading u)) stmts)) → Runs u m after rest behind Q base under → Returns u m Q base under
+    → Runs u k (λ t. block (map (stmt_of (reading u)) stmts) (past declared (stmt_of (reading u) stmt).sets) t after) (stmts ++ rest) (scope_after u.program.procs stmt scope) Q base under
+rest_runs {Q = Q} {base = base} {under = under} u m k declared scope behind stmt stmts rest after walks less fits out well covered are sees closed runs returns j le xs slots env v s kept stance matches holds d =
+    let procs = u.program.procs in
+    let next = scope_after procs stmt scope in
+    let both = and_parts ((stmt_scoped procs stmt).fits scope) (all_fit (map (stmt_scoped procs) stmts) next) fits in
+    let alone = and_from ((stmt_scoped procs stmt).fits scope) true both.0 refl in
+    walks j le stmts next behind (past declared (stmt_of (reading u) stmt).sets) rest after Q base under both.1 ((flags_stay procs (stmt ∷ []) scope).0 ∙ out) well covered
+    (locals_are_declared procs (reading u) stmt scope declared are)
+    (λ slot number. ap is_number (sights_stay procs (stmt ∷ []) scope slot alone (number_shared (sight_at scope slot) (sees slot number))) ∙ sees slot number)
+    closed (runs_less after u m j (omega (arith, less, le)) runs) (returns_less u m j (omega (arith, less, le)) returns) xs slots env v s kept stance matches holds d
+
+walk : (m : ℕ) → ((k : ℕ) → k < m → (w : Activation) → IsDerived w.program → Walks w k) → ((w : Activation) (k : ℕ) → IsDerived w.program → ParMoves w k)
+    → (u : Activation) → IsDerived u.program → Walks u m
+walk m below par u ok [] scope behind declared rest after Q base under fits out well covered are sees closed runs returns xs slots env v s kept stance matches holds d =
+    runs m (line_self m) xs slots env v s kept stance (sees_more behind scope env slots sees matches) holds d
+walk m below par u ok (stmt ∷ stmts) scope behind declared rest after Q base under fits out well covered are sees closed runs returns xs slots env v s kept stance matches holds d =
+    let procs = u.program.procs in
+    let r = reading u in
+    let wells = and_parts (stmt_fits u.program stmt) (list_all (stmt_fits u.program) stmts) well in
+    let covereds = and_parts (covers stmt) (list_all covers stmts) covered in
+    let sets = (stmt_of r stmt).sets in
+    let more = all_sets (map (stmt_of r) stmts) in
+    let next = λ (t : State). block (map (stmt_of r) stmts) (past declared sets) t after in
+    let scoped = (and_parts ((stmt_scoped procs stmt).fits scope) (all_fit (map (stmt_scoped procs) stmts) (scope_after procs stmt scope)) fits).0 in
+    good_running u m (stmt ∷ (stmts ++ rest)) env xs (λ k e possible.
+    let less = λ (j : ℕ) (le : j ≤ k) (w : Activation) (derived : IsDerived w.program). below j (omega (arith, le, e)) w derived in
+    let goes = rest_runs u m k declared scope behind stmt stmts rest after (λ j le. less j le u ok) (omega (arith, e)) fits out wells.1 covereds.1 are sees (closed_right Q sets more closed) runs returns in
+    walk_act u k declared scope next stmt (stmts ++ rest) (out-Act stmt.act) ok less (par u k ok) refl
+    (subst (λ (c : Scoped). c.fits scope ≡ true) (statements_scoped procs stmt) scoped) out (sym (fit_of u.program stmt) ∙ wells.0) (sym (cover_of stmt) ∙ covereds.0) are
+    (subst (λ (n : Meaning). IsClosed Q n.sets) (meaning_of r stmt) (closed_left Q sets more closed))
+    (subst (λ (c : Scoped). Runs u k next (stmts ++ rest) (c.behind scope) Q base under) (statements_scoped procs stmt) goes)
+    (returns_less u m k (omega (arith, e)) returns) (record { possible = possible; kept = kept; stance = stance; matches = matches; holds = holds })
+    (subst (λ (n : Meaning). AllDerived (n.ends declared s next)) (meaning_of r stmt) d))
+
+walks_below : (bound m : ℕ) → m < bound → ((w : Activation) (k : ℕ) → IsDerived w.program → ParMoves w k) → (u : Activation) → IsDerived u.program → Walks u m
+walks_below zero m less par u ok = absurd (omega arith)
+walks_below (suc bound) m less par u ok = walk m (λ k smaller w derived. walks_below bound k (omega (arith, smaller, less)) par w derived) par u ok
+
+line_below : (m : ℕ) → m < suc m
+line_below m = omega arith
+
+-- in a program whose procedures are derived, statements whose paths are derived run well
+pub walks : ((w : Activation) (k : ℕ) → IsDerived w.program → ParMoves w k) → (u : Activation) (m : ℕ) → IsDerived u.program → Walks u m
+walks par u m ok = walks_below (suc m) m (line_below m) par u ok
