@@ -1,5 +1,4 @@
 pub mod Lists
-pub mod Assumed
 pub mod Passing
 pub mod Cutting
 pub mod Moving

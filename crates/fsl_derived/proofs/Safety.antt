@@ -10,19 +10,13 @@ use Rattle.fsl_safe.proofs.Safety.{good_is_safe}
 use Rattle.fsl_walk.specs.Covered.{covers_program}
 use Rattle.fsl_walk.specs.Walks.{IsDerived}
 use Rattle.fsl_derived.specs.Laws.{IsSafeAlways, CellsAreSafe}
-use Rattle.fsl_derived.proofs.Assumed.{walks}
-use Rattle.fsl_derived.proofs.Par.{par_moves}
-use Rattle.fsl_derived.proofs.Starting.{AllWalk, thread_good}
+use Rattle.fsl_derived.proofs.Starting.{thread_good}
 use Rattle.fsl_derived.proofs.Deriving.{accepted_derived}
 use Rattle.fsl_derived.proofs.Mains.{main_starts}
 
--- where the walk goes through, what is derived is safe
-pub walked_is_safe : (p : Program) → IsDerived p → AllWalk p → IsSafeAlways p
-walked_is_safe p derived all g last execution consistent acyclic =
-    good_is_safe (logic_of p) p g last (λ o call ys s n. thread_good p derived all o call ys s n) (main_starts p derived.well) execution consistent acyclic
-
 pub derived_is_safe : (p : Program) → IsDerived p → IsSafeAlways p
-derived_is_safe p derived = walked_is_safe p derived (walks p derived par_moves)
+derived_is_safe p derived g last execution consistent acyclic =
+    good_is_safe (logic_of p) p g last (λ o call ys s n. thread_good p derived o call ys s n) (main_starts p derived.well) execution consistent acyclic
 
 pub cells_are_safe : CellsAreSafe
 cells_are_safe p n well covered accepted = derived_is_safe p (record { well = well; covered = covered; each = accepted_derived (ends_of p) 0 0 n p.procs accepted })

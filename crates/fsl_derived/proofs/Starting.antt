@@ -38,7 +38,9 @@ use Rattle.fsl_scoped.proofs.Bodies.{bodies_are_declared, contracts_outside}
 use Rattle.fsl_scoped.proofs.Parameters.{proc_fits as parts_of}
 use Rattle.fsl_walk.proofs.Rounds.{kept_self}
 use Rattle.fsl_walk.proofs.Steps.{each_lands, good_possible}
+use Rattle.fsl_walk.proofs.Walk.{walks}
 use Rattle.fsl_derived.proofs.Passing.{all_procs, well_proc}
+use Rattle.fsl_derived.proofs.Par.{par_moves}
 use Rattle.fsl_derived.proofs.Ending.{AtStart, body_closed, outermost, end_returns, closing_runs}
 
 -- ---- numbers that are padded
@@ -64,12 +66,13 @@ start_fits xs = record { one = refl; facts = record { all = λ w e. tt }; env = 
 line_none : (a : ℕ) → a + 0 ≤ a
 line_none a = omega arith
 
-abbrev pub AllWalk : Program → Type 1
-AllWalk p = (u : Activation) → u.program ≡ p → (m : ℕ) → Walks u m
+-- what is derived is walked through
+all_walk : (u : Activation) (m : ℕ) → IsDerived u.program → Walks u m
+all_walk = walks (λ w k derived. par_moves w derived.well k)
 
-body_good : (p : Program) → IsDerived p → AllWalk p → (o : Debt) (call : Start) (ys : List Atom) (s : StartsWith p o call ys) (n : ℕ) → IsPossible (all_placed AtPlain ys)
+body_good : (p : Program) → IsDerived p → (o : Debt) (call : Start) (ys : List Atom) (s : StartsWith p o call ys) (n : ℕ) → IsPossible (all_placed AtPlain ys)
     → IsGood (outermost p o s.proc) n (config_of (outermost p o s.proc) s.proc.body (padded_numbers s.proc.slots call.args)) (all_placed AtPlain ys)
-body_good p derived walks o call ys s n possible =
+body_good p derived o call ys s n possible =
     let q = s.proc in
     let u = outermost p o q in
     let xs = all_placed AtPlain ys in
@@ -85,7 +88,7 @@ body_good p derived walks o call ys s n possible =
     (derived.each call.proc q s.is) in
     let returns = end_returns p o q s.need.env n xs nothing well.1 long s.owed in
     subst (λ (stmts : List Stmt). IsGood u n (config_of u stmts env) xs) (append-nil q.body)
-    (walks u refl n q.body (in_body (behind_requires q)) (in_body (behind_requires q)) 0 [] (closing (asrt_of q.post) q.last) (AtStart q s.need.env) xs nothing
+    (all_walk u n derived q.body (in_body (behind_requires q)) (in_body (behind_requires q)) 0 [] (closing (asrt_of q.post) q.last) (AtStart q s.need.env) xs nothing
     scoped.body (contracts_outside q) (body_fits p q well.0) (all_procs covers_proc p.procs call.proc q derived.covered s.is)
     (bodies_are_declared p.procs q) (λ slot seen. seen) (body_closed p.procs q (reading u) s.need.env well.1)
     (closing_runs u n q.last (in_body (behind_requires q)) (AtStart q s.need.env) xs nothing returns) returns
@@ -99,9 +102,9 @@ body_good p derived walks o call ys s n possible =
     line_same a = omega arith
 
 -- a thread that starts with what its contract requires is good, for any number of moves
-pub thread_good : (p : Program) → IsDerived p → AllWalk p → (o : Debt) (call : Start) (ys : List Atom) → StartsWith p o call ys → (n : ℕ)
+pub thread_good : (p : Program) → IsDerived p → (o : Debt) (call : Start) (ys : List Atom) → StartsWith p o call ys → (n : ℕ)
     → Good (logic_of p) p o n (start_of p call.proc call.args) [] (all_placed AtPlain ys)
-thread_good p derived walks o call ys s n =
+thread_good p derived o call ys s n =
     subst (λ (c : Config). Good (logic_of p) p o n c [] (all_placed AtPlain ys)) (sym (ap (λ (q : Option Proc). started_at (entered q call.args None)) s.is))
     (good_possible (outermost p o s.proc) n (config_of (outermost p o s.proc) s.proc.body (padded_numbers s.proc.slots call.args)) (all_placed AtPlain ys) (λ e. absurd (cc))
-    (body_good p derived walks o call ys s n))
+    (body_good p derived o call ys s n))
