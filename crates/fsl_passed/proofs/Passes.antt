@@ -205,13 +205,13 @@ AllPassFit g [] (q ∷ qs) = ⊥
 AllPassFit g (p ∷ ps) [] = ⊥
 AllPassFit g (p ∷ ps) (q ∷ qs) = PassFits g p q × AllPassFit g ps qs
 
-line_parts : (h l a m b : ℕ) → h ≡ l + a → l ≡ m + b → h ≡ m + (a + b)
+pub line_parts : (h l a m b : ℕ) → h ≡ l + a → l ≡ m + b → h ≡ m + (a + b)
 line_parts h l a m b j k = omega arith
 
-line_needs : (n m a b c d e : ℕ) → n ≡ a + b → m ≡ c + d → a + c ≡ e → n + m ≡ e + (b + d)
+pub line_needs : (n m a b c d e : ℕ) → n ≡ a + b → m ≡ c + d → a + c ≡ e → n + m ≡ e + (b + d)
 line_needs n m a b c d e h k l = omega arith
 
-line_past : (p a b : ℕ) → (p + a) + b ≤ p + (a + b)
+pub line_past : (p a b : ℕ) → (p + a) + b ≤ p + (a + b)
 line_past p a b = omega arith
 
 pub all_pass : (g : Ground) (ps : List Passing) (qs : List Asks) → AllPassFit g ps qs → PassFits g (all_passed ps) (all_asked qs)

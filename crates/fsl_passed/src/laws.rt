@@ -1,7 +1,13 @@
-//! What a read-modify-write passes on. The call does nothing; its contract is the law.
-ghost use Rattle.fsl_passed.specs.Laws.{AsrtPasses};
+//! What a read-modify-write passes on and keeps. Each call does nothing; its contract is a family of laws.
+ghost use Rattle.fsl_passed.specs.Laws.{AsrtPasses, PartsPass, KeepFits};
 
-/// Every assertion, passed on from the message that was read to the one that is written.
+/// What is passed on from the message that was read to the one that is written.
 pub fn passing()
-    ensures { AsrtPasses }
+    ensures asrt { AsrtPasses }
+    ensures parts { PartsPass }
+{}
+
+/// What the thread keeps of the message that was read.
+pub fn keeping()
+    ensures { KeepFits }
 {}
