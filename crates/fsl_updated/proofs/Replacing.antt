@@ -2,6 +2,7 @@
 -- is passed on, and the rest is kept.
 use Rattle.std.proofs.Common.{◌≡◌, inl, inr, ℕ, ◌+◌, ◌≤◌, Bool, true, false, ◌&&◌, ◌||◌, List, [], ◌∷◌, map, ℤ, if◌then◌else◌, refl, sym, subst, arith}
 use Rattle.std.specs.Prelude.{slice_set}
+use Rattle.std.proofs.lemmas.Bool.{and_from, or_left, or_right}
 use Rattle.fsl_core.specs.declared.act.Step.{Step}
 use Rattle.fsl_core.specs.declared.mode.Mode.{Mode}
 use Rattle.fsl_core.specs.declared.mode.Rung.{Rung}
@@ -28,7 +29,7 @@ use Rattle.fsl_meaning.proofs.Calculus.{lands_then, lands_as}
 use Rattle.fsl_meaning.proofs.Heaps.{same_rung_self}
 use Rattle.fsl_meaning.proofs.Kept.{agrees_less, knows_less, owns_kept, fits_kept}
 use Rattle.fsl_kept.specs.Changes.{grounded, lifted, without}
-use Rattle.fsl_kept.specs.Parts.{parts_in, ArePieces}
+use Rattle.fsl_kept.specs.Parts.{Part, parts_in, ArePieces}
 use Rattle.fsl_kept.proofs.Locals.{lands_set}
 use Rattle.fsl_kept.proofs.Parts.{parts_are, parts_produced}
 use Rattle.fsl_passed.specs.Passing.{IsPassed, AllPassed}
@@ -79,23 +80,16 @@ line_got n h = omega arith
 
 -- ---- what is known
 
-or_right : (a b : Bool) → b ≡ true → (a || b) ≡ true
-or_right true b h = refl
-or_right false b h = h
-
 from_either : (a b : Bool) → ((a && b) || b) ≡ true → b ≡ true
 from_either true true h = refl
 from_either true false h = h
 from_either false b h = h
 
-by_first : (a b c : Bool) → a ≡ true → b ≡ true → ((a && b) || c) ≡ true
-by_first true true c h k = refl
-by_first true false c h k = absurd (cc)
-by_first false b c h k = absurd (cc)
-
 -- what the message knew is known where the read puts it
 learned : (g : Ground) (t : Truth) (rung : Rung) (l : ℤ) → Knows (grounded (learning rung g) t) (claim.IsInit Msg l) → Knows (grounded (learning rung g) t) (claim.IsInit rung l)
-learned g t rung l h = by_first (same_rung rung rung) (g.knows (claim.IsInit Msg l)) (g.knows (claim.IsInit rung l)) (same_rung_self rung) (from_either (same_rung Msg rung) (g.knows (claim.IsInit Msg l)) h)
+learned g t rung l h =
+    let here = g.knows (claim.IsInit Msg l) in
+    or_left (same_rung rung rung && here) (g.knows (claim.IsInit rung l)) (and_from (same_rung rung rung) here (same_rung_self rung) (from_either (same_rung Msg rung) here h))
 
 learns_more : (g : Ground) (t : Truth) (rung : Rung) (h : Heap) → KnowsMore (grounded g t) (grounded (learning rung g) t) h
 learns_more g t rung h = record { more = λ c n k. or_right (learns rung g c) (g.knows c) k }
@@ -124,8 +118,8 @@ line_self : (a : ℕ) → a ≤ a
 line_self a = omega arith
 
 pub replace_fits : {g : Ground} {slots : List ℤ} {v : Numbers} {s : State} {h : Heap} {inv : ℕ} {args : List ℤ} {x y : ℤ} (p : Program) (read : Ground) (m : Mode) (steps : List Step) (l : Leaves) (o new : Combination) (more : Heap)
-    → LeavesMean s.next v l inv args → Means s.next v o x → Means s.next v new y → Reads p g read inv args x h more → Fits slots (All g h) v s
-    → Lands s.next v (λ u t w. Replaces p read m steps slots inv args y more slots t w) (replace (setting_of asrt_of p) m (map (step_of expr_of) steps) l o new s)
+    → LeavesMean s.next v l inv args → Means s.next v o x → Means s.next v new y → Reads g read (parts_in p inv args x) h more → Fits slots (All g h) v s
+    → Lands s.next v (λ u t w. Replaces read m steps slots (parts_in p inv args y) more slots t w) (replace (setting_of asrt_of p) m (map (step_of expr_of) steps) l o new s)
 replace_fits {slots = slots} {h = h} {inv = inv} {args = args} {x = x} {y = y} p read m steps l o new more leaves o_is new_is reads fit =
     let thread = without Msg h in
     let truth = steps_truth slots steps read.truth in
@@ -162,8 +156,8 @@ replace_fits {slots = slots} {h = h} {inv = inv} {args = args} {x = x} {y = y} p
     }))))))
 
 -- and the old value is the variable's
-pub lands_set_replaced : {p : Program} {read : Ground} {m : Mode} {steps : List Step} {slots : List ℤ} {inv : ℕ} {args : List ℤ} {y : ℤ} {more : Heap} {later : List ℤ} {s : State} {w : Numbers} {o : Combination} {x : ℤ} (slot : ℕ)
-    → Replaces p read m steps slots inv args y more later s w → Means s.next w o x → Lands s.next w (λ u t w2. Replaces p read m steps slots inv args y more (slice_set later slot x) t w2) (set slot o s)
+pub lands_set_replaced : {read : Ground} {m : Mode} {steps : List Step} {slots : List ℤ} {parts : List Part} {more : Heap} {later : List ℤ} {s : State} {w : Numbers} {o : Combination} {x : ℤ} (slot : ℕ)
+    → Replaces read m steps slots parts more later s w → Means s.next w o x → Lands s.next w (λ u t w2. Replaces read m steps slots parts more (slice_set later slot x) t w2) (set slot o s)
 lands_set_replaced slot q is = lands_as (lands_set slot q.fits is) (λ u t w r fits. record {
   may = q.may;
   need = q.need;

@@ -29,6 +29,7 @@ use Rattle.fsl_meaning.proofs.Owned.{all_lasts}
 use Rattle.fsl_meaning.proofs.Joining.{tells_fitting}
 use Rattle.fsl_asserted.specs.Exact.{exact}
 use Rattle.fsl_asserted.proofs.Terms.{reads_term}
+use Rattle.fsl_kept.specs.Parts.{parts_in}
 use Rattle.fsl_kept.proofs.Locals.{lands_set}
 use Rattle.fsl_updated.specs.Updates.{MayReplace, IsDealt, LeavesMean, Fails, Reads, Replaces, Compares}
 use Rattle.fsl_updated.proofs.Finding.{leaves_tell, may_replace, leaves_mean, leaves_more, finds_then, finds_end}
@@ -44,8 +45,8 @@ exchange_tells {v = v} p slot m at e steps fit =
     finds_then v _ _ (leaves_tell a fit a_is) (λ l k. inl (may_replace l k)))))
 
 pub exchange_fits : {g : Ground} {slots : List ℤ} {v : Numbers} {s : State} {h : Heap} {inv : ℕ} {args : List ℤ} (p : Program) (read : Ground) (slot : ℕ) (m : Mode) (at e : Expr) (steps : List Step) (x : ℤ) (more : Heap)
-    → IsDealt g (exact at slots) inv args → Reads p g read inv args x h more → Fits slots (All g h) v s
-    → Lands s.next v (λ u t w. Replaces p read m steps slots inv args (exact e slots) more (slice_set slots slot x) t w)
+    → IsDealt g (exact at slots) inv args → Reads g read (parts_in p inv args x) h more → Fits slots (All g h) v s
+    → Lands s.next v (λ u t w. Replaces read m steps slots (parts_in p inv args (exact e slots)) more (slice_set slots slot x) t w)
     (exchange (setting_of asrt_of p) slot m (expr_of at) (expr_of e) (map (step_of expr_of) steps) s)
 exchange_fits {g = g} {h = h} p read slot m at e steps x more dealt reads fit =
     lands_end _ (tells_then _ (reads_term at fit fit.env) (λ a a_is.
@@ -98,8 +99,8 @@ add_tells {v = v} p slot m at e steps fit =
     finds_then v _ _ (leaves_tell a fit a_is) (λ l k. inl (may_replace l k)))))
 
 pub add_fits : {g : Ground} {slots : List ℤ} {v : Numbers} {s : State} {h : Heap} {inv : ℕ} {args : List ℤ} (p : Program) (read : Ground) (slot : ℕ) (m : Mode) (at e : Expr) (steps : List Step) (x y : ℤ) (more : Heap)
-    → IsDealt g (exact at slots) inv args → in_range (x +ℤ exact e slots) ≡ Some y → Reads p g read inv args x h more → Fits slots (All g h) v s
-    → Lands s.next v (λ u t w. Replaces p read m steps slots inv args y more (slice_set slots slot x) t w) (fetch_add (setting_of asrt_of p) slot m (expr_of at) (expr_of e) (map (step_of expr_of) steps) s)
+    → IsDealt g (exact at slots) inv args → in_range (x +ℤ exact e slots) ≡ Some y → Reads g read (parts_in p inv args x) h more → Fits slots (All g h) v s
+    → Lands s.next v (λ u t w. Replaces read m steps slots (parts_in p inv args y) more (slice_set slots slot x) t w) (fetch_add (setting_of asrt_of p) slot m (expr_of at) (expr_of e) (map (step_of expr_of) steps) s)
 add_fits {g = g} {slots = slots} {h = h} p read slot m at e steps x y more dealt range reads fit =
     let z = x +ℤ exact e slots in
     let i = is_in_range z y range in
@@ -126,16 +127,16 @@ cas_tells {v = v} p slot m at old new steps fit =
 
 -- it is replaced, or not, and the old value is the variable's
 compared_fits : {g : Ground} {slots : List ℤ} {v : Numbers} {s : State} {h : Heap} {inv : ℕ} {args : List ℤ} {x y : ℤ} (p : Program) (read : Ground) (slot : ℕ) (m : Mode) (steps : List Step) (l : Leaves) (o n : Combination) (more : Heap) (b : Bool)
-    → LeavesMean s.next v l inv args → Means s.next v o x → Means s.next v n y → (b ≡ true → Reads p g read inv args x h more) → Fits slots (All g h) v s
-    → Lands s.next v (λ u t w. Compares b p g read m steps slots inv args y h more (slice_set slots slot x) t w)
+    → LeavesMean s.next v l inv args → Means s.next v o x → Means s.next v n y → (b ≡ true → Reads g read (parts_in p inv args x) h more) → Fits slots (All g h) v s
+    → Lands s.next v (λ u t w. Compares b g read m steps slots (parts_in p inv args y) h more (slice_set slots slot x) t w)
     (followed (chosen (replace (setting_of asrt_of p) m (map (step_of expr_of) steps) l o n) done b s) (λ u. set slot o))
 compared_fits p read slot m steps l o n more true leaves o_is n_is reads fit =
     lands_then (replace_fits p read m steps l o n more leaves o_is n_is (reads refl) fit) (λ u t w r q. lands_set_replaced slot q (means_more r o_is))
 compared_fits p read slot m steps l o n more false leaves o_is n_is reads fit = lands_then (lands_done fit) (λ u t w r f. lands_set slot f (means_more r o_is))
 
 pub cas_fits : {g : Ground} {slots : List ℤ} {v : Numbers} {s : State} {h : Heap} {inv : ℕ} {args : List ℤ} (p : Program) (read : Ground) (slot : ℕ) (m : Mode) (at old new : Expr) (steps : List Step) (x : ℤ) (more : Heap)
-    → IsDealt g (exact at slots) inv args → (int_eq x (exact old slots) ≡ true → Reads p g read inv args x h more) → Fits slots (All g h) v s
-    → Lands s.next v (λ u t w. Compares (int_eq x (exact old slots)) p g read m steps slots inv args (exact new slots) h more (slice_set slots slot x) t w)
+    → IsDealt g (exact at slots) inv args → (int_eq x (exact old slots) ≡ true → Reads g read (parts_in p inv args x) h more) → Fits slots (All g h) v s
+    → Lands s.next v (λ u t w. Compares (int_eq x (exact old slots)) g read m steps slots (parts_in p inv args (exact new slots)) h more (slice_set slots slot x) t w)
     (cas (setting_of asrt_of p) slot m (expr_of at) (expr_of old) (expr_of new) (map (step_of expr_of) steps) s)
 cas_fits {g = g} {slots = slots} {h = h} {inv = inv} {args = args} p read slot m at old new steps x more dealt reads fit =
     let answer = int_eq x (exact old slots) in
@@ -146,6 +147,6 @@ cas_fits {g = g} {slots = slots} {h = h} {inv = inv} {args = args} p read slot m
     lands_then (lands_symbol x (all_lasts g h) fit) (λ o t w r f.
     lands_end _ (lands_then (lands_sides (picked_equal o expected f.0 f.1 (means_more r expected_is))) (λ b t2 w2 r2 c.
     let q = grows_then r r2 in
-    subst (λ (z : Bool). Lands t2.next w2 (λ u t3 w3. Compares answer p g read m steps slots inv args (exact new slots) h more (slice_set slots slot x) t3 w3)
+    subst (λ (z : Bool). Lands t2.next w2 (λ u t3 w3. Compares answer g read m steps slots (parts_in p inv args (exact new slots)) h more (slice_set slots slot x) t3 w3)
     (followed (chosen (replace (setting_of asrt_of p) m (map (step_of expr_of) steps) l o n) done z t2) (λ u. set slot o))) (sym c.0)
     (compared_fits p read slot m steps l o n more answer (leaves_more q (leaves_mean l dealt k)) (means_more r2 f.1) (means_more q n_is) reads c.1)))))))))

@@ -22,6 +22,7 @@ use Rattle.fsl_meaning.specs.States.{All, Fits}
 use Rattle.fsl_meaning.specs.Branches.{Lands, Tells}
 use Rattle.fsl_asserted.specs.Exact.{exact}
 use Rattle.fsl_kept.specs.Changes.{without}
+use Rattle.fsl_kept.specs.Parts.{parts_in}
 use Rattle.fsl_updated.specs.Grounds.{forgetting}
 use Rattle.fsl_updated.specs.Steps.{MakesSteps}
 use Rattle.fsl_updated.specs.Updates.{MayReplace, IsDealt, LeavesMean, HasLeaves, Fails, Reads, Replaces, Compares}
@@ -43,8 +44,8 @@ LeavesTell = (g : Ground) (slots : List ℤ) (h : Heap) (v : Numbers) (s : State
 -- x is read and replaced by y
 abbrev pub ReplaceFits : Type 0
 ReplaceFits = (p : Program) (g read : Ground) (slots : List ℤ) (h more : Heap) (v : Numbers) (s : State) (m : Mode) (steps : List Step) (l : Leaves) (o new : Combination) (inv : ℕ) (args : List ℤ) (x y : ℤ)
-    → LeavesMean s.next v l inv args → Means s.next v o x → Means s.next v new y → Reads p g read inv args x h more → Fits slots (All g h) v s
-    → Lands s.next v (λ u t w. Replaces p read m steps slots inv args y more slots t w) (replace (setting_of asrt_of p) m (map (step_of expr_of) steps) l o new s)
+    → LeavesMean s.next v l inv args → Means s.next v o x → Means s.next v new y → Reads g read (parts_in p inv args x) h more → Fits slots (All g h) v s
+    → Lands s.next v (λ u t w. Replaces read m steps slots (parts_in p inv args y) more slots t w) (replace (setting_of asrt_of p) m (map (step_of expr_of) steps) l o new s)
 
 -- ---- the three rules. Before anything is read, the location is known to be one that may be updated, or some branch
 -- fails; any x may be read, by a message that has what the invariant asks for
@@ -55,8 +56,8 @@ ExchangeTells = (g : Ground) (slots : List ℤ) (h : Heap) (v : Numbers) (s : St
 
 abbrev pub ExchangeFits : Type 0
 ExchangeFits = (p : Program) (g read : Ground) (slots : List ℤ) (h more : Heap) (v : Numbers) (s : State) (slot : ℕ) (m : Mode) (at e : Expr) (steps : List Step) (inv : ℕ) (args : List ℤ) (x : ℤ)
-    → IsDealt g (exact at slots) inv args → Reads p g read inv args x h more → Fits slots (All g h) v s
-    → Lands s.next v (λ u t w. Replaces p read m steps slots inv args (exact e slots) more (slice_set slots slot x) t w)
+    → IsDealt g (exact at slots) inv args → Reads g read (parts_in p inv args x) h more → Fits slots (All g h) v s
+    → Lands s.next v (λ u t w. Replaces read m steps slots (parts_in p inv args (exact e slots)) more (slice_set slots slot x) t w)
     (exchange (setting_of asrt_of p) slot m (expr_of at) (expr_of e) (map (step_of expr_of) steps) s)
 
 abbrev pub AddTells : Type 0
@@ -66,8 +67,8 @@ AddTells = (g : Ground) (slots : List ℤ) (h : Heap) (v : Numbers) (s : State) 
 -- a sum that leaves the range of values halts the thread
 abbrev pub AddFits : Type 0
 AddFits = (p : Program) (g read : Ground) (slots : List ℤ) (h more : Heap) (v : Numbers) (s : State) (slot : ℕ) (m : Mode) (at e : Expr) (steps : List Step) (inv : ℕ) (args : List ℤ) (x y : ℤ)
-    → IsDealt g (exact at slots) inv args → in_range (x +ℤ exact e slots) ≡ Some y → Reads p g read inv args x h more → Fits slots (All g h) v s
-    → Lands s.next v (λ u t w. Replaces p read m steps slots inv args y more (slice_set slots slot x) t w) (fetch_add (setting_of asrt_of p) slot m (expr_of at) (expr_of e) (map (step_of expr_of) steps) s)
+    → IsDealt g (exact at slots) inv args → in_range (x +ℤ exact e slots) ≡ Some y → Reads g read (parts_in p inv args x) h more → Fits slots (All g h) v s
+    → Lands s.next v (λ u t w. Replaces read m steps slots (parts_in p inv args y) more (slice_set slots slot x) t w) (fetch_add (setting_of asrt_of p) slot m (expr_of at) (expr_of e) (map (step_of expr_of) steps) s)
 
 abbrev pub CasTells : Type 0
 CasTells = (g : Ground) (slots : List ℤ) (h : Heap) (v : Numbers) (s : State) (p : Setting) (slot : ℕ) (m : Mode) (at old new : Expr) (steps : List TokenStep) → Fits slots (All g h) v s
@@ -76,6 +77,6 @@ CasTells = (g : Ground) (slots : List ℤ) (h : Heap) (v : Numbers) (s : State) 
 -- the message matters only where it has the expected value
 abbrev pub CasFits : Type 0
 CasFits = (p : Program) (g read : Ground) (slots : List ℤ) (h more : Heap) (v : Numbers) (s : State) (slot : ℕ) (m : Mode) (at old new : Expr) (steps : List Step) (inv : ℕ) (args : List ℤ) (x : ℤ)
-    → IsDealt g (exact at slots) inv args → (int_eq x (exact old slots) ≡ true → Reads p g read inv args x h more) → Fits slots (All g h) v s
-    → Lands s.next v (λ u t w. Compares (int_eq x (exact old slots)) p g read m steps slots inv args (exact new slots) h more (slice_set slots slot x) t w)
+    → IsDealt g (exact at slots) inv args → (int_eq x (exact old slots) ≡ true → Reads g read (parts_in p inv args x) h more) → Fits slots (All g h) v s
+    → Lands s.next v (λ u t w. Compares (int_eq x (exact old slots)) g read m steps slots (parts_in p inv args (exact new slots)) h more (slice_set slots slot x) t w)
     (cas (setting_of asrt_of p) slot m (expr_of at) (expr_of old) (expr_of new) (map (step_of expr_of) steps) s)

@@ -4,7 +4,6 @@ use Rattle.fsl_core.specs.declared.act.Step.{Step}
 use Rattle.fsl_core.specs.declared.mode.Mode.{Mode}
 use Rattle.fsl_core.specs.declared.mode.Rung.TheVariants.{Plain, Msg}
 use Rattle.fsl_core.specs.declared.verdict.Kind.{Kind}
-use Rattle.fsl_core.specs.Programs.{Program}
 use Rattle.fsl_core.specs.logic.States.{State, fails, Branch, Branches}
 use Rattle.fsl_core.specs.logic.Accesses.{gaining, giving}
 use Rattle.fsl_core.specs.logic.Updates.{Leaves}
@@ -15,7 +14,7 @@ use Rattle.fsl_meaning.specs.Heaps.{Key, Cell, Heap, Holds, IsInit, MayWrite, Ma
 use Rattle.fsl_meaning.specs.States.{All, Fits}
 use Rattle.fsl_asserted.specs.Needs.{Need}
 use Rattle.fsl_kept.specs.Changes.{grounded, lifted, without}
-use Rattle.fsl_kept.specs.Parts.{parts_in, parts_asked}
+use Rattle.fsl_kept.specs.Parts.{Part, parts_asked}
 use Rattle.fsl_passed.specs.Passing.{AllPassed}
 use Rattle.fsl_updated.specs.Grounds.{forgetting, learning}
 use Rattle.fsl_updated.specs.Steps.{steps_truth, steps_heap, AllMayStep}
@@ -60,26 +59,27 @@ Fails {X = X} bs = (kind : Kind) × Among (let b : Branch X = fails kind in b) b
 
 -- ---- the message
 
--- beside the heap h of a thread that stands on g, the message has what all parts of the invariant ask for at its value
--- x. The ground while it is read knows what the message knows, at msg, and what it gives to the thread.
-pub record Reads (p : Program) (g read : Ground) (inv : ℕ) (args : List ℤ) (x : ℤ) (h more : Heap) : Type 0 where
+-- beside the heap h of a thread that stands on g, the message has what the parts of the invariant ask for at its value.
+-- The ground while it is read knows what the message knows, at msg, and what it gives to the thread.
+pub record Reads (g read : Ground) (parts : List Part) (h more : Heap) : Type 0 where
   pub knows : KnowsMore (forgetting g) read h
   pub agrees : Agrees g.truth read.truth h
   pub need : Need
-  pub is : parts_asked read.truth Msg (parts_in p inv args x) ≡ Some need
+  pub is : parts_asked read.truth Msg parts ≡ Some need
   pub known : AllKnown read need.claims
   pub room : Holds need.heap h more
   pub bounded : IsBounded read.truth more
 
 -- ---- what becomes of it
 
--- Behind the token steps, y was written. What all parts of the invariant ask for at y was given by the message, and the
--- thread added what lacks. Of the rest of the message, some is kept where the read puts what it gains, and some joins
--- shares of the thread: of cells of which the thread still has one at plain and the message that is written has got one.
-pub record Replaces (p : Program) (read : Ground) (m : Mode) (steps : List Step) (slots : List ℤ) (inv : ℕ) (args : List ℤ) (y : ℤ) (more : Heap) (later : List ℤ) (s : State) (w : Numbers) : Type 0 where
+-- Behind the token steps, a value was written. What the parts of the invariant ask for at it was given by the message,
+-- and the thread added what lacks. Of the rest of the message, some is kept where the read puts what it gains, and some
+-- joins shares of the thread: of cells of which the thread still has one at plain and the message that is written has
+-- got one.
+pub record Replaces (read : Ground) (m : Mode) (steps : List Step) (slots : List ℤ) (parts : List Part) (more : Heap) (later : List ℤ) (s : State) (w : Numbers) : Type 0 where
   pub may : AllMayStep slots steps more
   pub need : Need
-  pub is : parts_asked (steps_truth slots steps read.truth) (giving m) (parts_in p inv args y) ≡ Some need
+  pub is : parts_asked (steps_truth slots steps read.truth) (giving m) parts ≡ Some need
   pub known : AllPassed read (giving m) need.claims
   pub given : Heap
   pub added : Heap
@@ -93,6 +93,6 @@ pub record Replaces (p : Program) (read : Ground) (m : Mode) (steps : List Step)
   pub fits : Fits later (All (grounded (learning (gaining m) read) (steps_truth slots steps read.truth)) (λ k. lifted Msg (gaining m) kept k + (lifted Msg Plain joined k + left k))) w s
 
 -- where another value was read than the expected one, nothing is gained and nothing given
-abbrev pub Compares : Bool → Program → Ground → Ground → Mode → List Step → List ℤ → ℕ → List ℤ → ℤ → Heap → Heap → List ℤ → State → Numbers → Type 0
-Compares true p g read m steps slots inv args y h more later s w = Replaces p read m steps slots inv args y more later s w
-Compares false p g read m steps slots inv args y h more later s w = Fits later (All g h) w s
+abbrev pub Compares : Bool → Ground → Ground → Mode → List Step → List ℤ → List Part → Heap → Heap → List ℤ → State → Numbers → Type 0
+Compares true g read m steps slots parts h more later s w = Replaces read m steps slots parts more later s w
+Compares false g read m steps slots parts h more later s w = Fits later (All g h) w s
