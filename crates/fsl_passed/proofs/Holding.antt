@@ -52,7 +52,8 @@ pub held_without : (n : ℕ) (v : Numbers) (past : Heap) (before : List Held) (h
 held_without n v past [] h behind e = e.1
 held_without n v past (b ∷ bs) h behind e = (e.0, held_without n v past bs h behind e.1)
 
-pub held_with : (n : ℕ) (v : Numbers) (past : Heap) (before : List Held) (h : Held) (behind : List Held) → IsHeld n v past h → EachHeld n v past (before ++ behind) → EachHeld n v past (before ++ h ∷ behind)
+pub held_with : (n : ℕ) (v : Numbers) (past : Heap) (before : List Held) (h : Held) (behind : List Held) → IsHeld n v past h → EachHeld n v past (before ++ behind) → EachHeld n v past
+    (before ++ h ∷ behind)
 held_with n v past [] h behind i e = (i, e)
 held_with n v past (b ∷ bs) h behind i e = (e.0, held_with n v past bs h behind i e.1)
 

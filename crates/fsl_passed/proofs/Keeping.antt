@@ -156,7 +156,8 @@ kept_lands g {v = v} {s = s} acquiring base past cur c hs message mine rest know
       within = λ q. line_kept (mine q) (rest q) (message q) (k.kept q) (k.joined q) (holds q) (k.within q);
       shared = k.shared;
       fits = fits_less (λ q. lifted Msg rung (λ j. mine j + k.kept j) q + (lifted Msg Plain k.joined q + cur q))
-          (λ q. line_keeps (lifted Msg rung k.kept q) (lifted Msg rung (λ j. mine j + k.kept j) q) (lifted Msg Plain k.joined q) (lifted Msg rung mine q) (cur q) (lifted_both Msg rung mine k.kept q)) k.fits;
+          (λ q. line_keeps (lifted Msg rung k.kept q) (lifted Msg rung (λ j. mine j + k.kept j) q) (lifted Msg Plain k.joined q) (lifted Msg rung mine q) (cur q)
+          (lifted_both Msg rung mine k.kept q)) k.fits;
     }))
 
 some_is_at : (loc l : ℤ) (n : ℕ) (b : Bool) → int_eq loc l ≡ b → 1 ≤ (if b then n else 0) → loc ≡ l
@@ -194,7 +195,8 @@ joined_lands g {v = v} {s = s} base past cur at share value hs message mine rest
       shared = λ l h. elim (some_part (piece (key.Cell Msg l)) (k.joined (key.Cell Msg l)) h)
           [ inl a ↦ (based l a, subst (λ (z : ℤ). 1 ≤ past (key.Cell Msg z)) (here l a) got) | inr a ↦ k.shared l a ];
       fits = fits_less (λ q. lifted Msg Down k.kept q + (lifted Msg Plain (λ j. piece j + k.joined j) q + cur q))
-          (λ q. line_joins (lifted Msg Down k.kept q) (lifted Msg Plain k.joined q) (lifted Msg Plain (λ j. piece j + k.joined j) q) (lifted Msg Plain piece q) (cur q) (lifted_both Msg Plain piece k.joined q)) k.fits;
+          (λ q. line_joins (lifted Msg Down k.kept q) (lifted Msg Plain k.joined q) (lifted Msg Plain (λ j. piece j + k.joined j) q) (lifted Msg Plain piece q) (cur q)
+          (lifted_both Msg Plain piece k.joined q)) k.fits;
     }))
 
 -- ---- which of the two
@@ -227,7 +229,8 @@ keep_by : (g : Ground) {slots : List ℤ} {v : Numbers} {s : State} (acquiring :
     → ((l : ℤ) → Knows g (claim.IsInit Msg l) → Knows g (claim.IsInit (gained_at acquiring) l)) → IsHeld s.next v past h → Stands g s.next v h.chunk mine → Holds mine rest message
     → Fits slots (All g cur) v s → IsBounded g.truth cur → HasRoom message cur → IsBacked acquiring base cur → LandsOn g slots acquiring base past rest hs s.next v
     → (b : Bool) → (h.touched && owns_cell h.chunk s) ≡ b
-    → Lands s.next v (λ u t w. KeepsOn g slots acquiring base past message cur t w) (followed (produce_chunk (at_rung (if acquiring then Plain else (if b then Plain else Down)) h.chunk) s) (λ u. keep acquiring hs))
+    → Lands s.next v (λ u t w. KeepsOn g slots acquiring base past message cur t w)
+    (followed (produce_chunk (at_rung (if acquiring then Plain else (if b then Plain else Down)) h.chunk) s) (λ u. keep acquiring hs))
 keep_by g true base past cur h hs message mine rest knows held stands holds fit bounds room backed next b e =
     kept_lands g true base past cur h.chunk hs message mine rest knows held.at_msg stands holds fit bounds room backed next
 keep_by g false base past cur h hs message mine rest knows held stands holds fit bounds room backed next false e =
@@ -257,12 +260,15 @@ keep_lands g {s = s} acquiring base past cur [] message knows is_held each fit b
   joined = nothing;
   within = λ q. line_zero (message q);
   shared = λ l h. absurd (omega arith);
-  fits = fits_less (λ q. lifted Msg (gained_at acquiring) nothing q + (lifted Msg Plain nothing q + cur q)) (λ q. line_none (lifted Msg (gained_at acquiring) nothing q) (lifted Msg Plain nothing q) (cur q)) fit;
+  fits = fits_less (λ q. lifted Msg (gained_at acquiring) nothing q + (lifted Msg Plain nothing q + cur q))
+      (λ q. line_none (lifted Msg (gained_at acquiring) nothing q) (lifted Msg Plain nothing q) (cur q)) fit;
 })
 keep_lands g {slots = slots} {v = v} {s = s} acquiring base past cur (h ∷ hs) message knows is_held each fit bounds room backed =
     let next : LandsOn g slots acquiring base past each.1 hs s.next v = λ cur2 w t r fit2 bounds2 room2 backed2.
-    keep_lands g acquiring base past cur2 hs each.1 knows (held_more {held = hs} past r (λ q. line_self (past q)) (record { each = is_held.1 })).each (each_later g (chunks_of hs) each.1 r each.4) fit2 bounds2 room2 backed2 in
-    lands_end _ (subst (λ (rung : Rung). Lands s.next v (λ u t w. KeepsOn g slots acquiring base past message cur t w) (followed (produce_chunk (at_rung rung h.chunk) s) (λ u. keep acquiring hs))) (is_keeping acquiring h s)
+    keep_lands g acquiring base past cur2 hs each.1 knows (held_more {held = hs} past r (λ q. line_self (past q)) (record { each = is_held.1 })).each
+    (each_later g (chunks_of hs) each.1 r each.4) fit2 bounds2 room2 backed2 in
+    lands_end _ (subst (λ (rung : Rung). Lands s.next v (λ u t w. KeepsOn g slots acquiring base past message cur t w)
+    (followed (produce_chunk (at_rung rung h.chunk) s) (λ u. keep acquiring hs))) (is_keeping acquiring h s)
     (keep_by g acquiring base past cur h hs message each.0 each.1 knows is_held.0 each.3 each.2 fit bounds room backed next (h.touched && owns_cell h.chunk s) refl))
 
 line_room : (m mp mu md tp tu td tm hp hu hd hm b : ℕ) → mp + tp ≤ hp → mu + tu ≤ hu → md + td ≤ hd → m + tm ≤ hm → hp + (hu + (hd + hm)) ≤ b → m + (tp + (tu + (td + tm))) ≤ b
@@ -270,14 +276,17 @@ line_room m mp mu md tp tu td tm hp hu hd hm b i j k l n = omega arith
 
 room_of : (t : Truth) (message thread more : Heap) → Holds message thread more → IsBounded t more → HasRoom message thread
 room_of t message thread more holds b l =
-    line_room (message (key.Cell Msg l)) (message (key.Cell Plain l)) (message (key.Cell Up l)) (message (key.Cell Down l)) (thread (key.Cell Plain l)) (thread (key.Cell Up l)) (thread (key.Cell Down l)) (thread (key.Cell Msg l))
-    (more (key.Cell Plain l)) (more (key.Cell Up l)) (more (key.Cell Down l)) (more (key.Cell Msg l)) (2 ^ 63) (holds (key.Cell Plain l)) (holds (key.Cell Up l)) (holds (key.Cell Down l)) (holds (key.Cell Msg l)) (b.cells l)
+    line_room (message (key.Cell Msg l)) (message (key.Cell Plain l)) (message (key.Cell Up l)) (message (key.Cell Down l)) (thread (key.Cell Plain l)) (thread (key.Cell Up l))
+    (thread (key.Cell Down l)) (thread (key.Cell Msg l))
+    (more (key.Cell Plain l)) (more (key.Cell Up l)) (more (key.Cell Down l)) (more (key.Cell Msg l)) (2 ^ 63) (holds (key.Cell Plain l)) (holds (key.Cell Up l)) (holds (key.Cell Down l))
+    (holds (key.Cell Msg l)) (b.cells l)
 
 line_right : (a b h : ℕ) → a + b ≤ h → b ≤ h
 line_right a b h l = omega arith
 
 pub keep_fits : {g : Ground} {slots : List ℤ} {v : Numbers} {s : State} {thread : Heap} (acquiring : Bool) (past message more : Heap) (held : List Held)
-    → ((l : ℤ) → Knows g (claim.IsInit Msg l) → Knows g (claim.IsInit (gained_at acquiring) l)) → Fits slots (All g thread) v s → Owns g s.next v (chunks_of held) message → AllHeld s.next v past held
+    → ((l : ℤ) → Knows g (claim.IsInit Msg l) → Knows g (claim.IsInit (gained_at acquiring) l)) → Fits slots (All g thread) v s → Owns g s.next v (chunks_of held) message
+    → AllHeld s.next v past held
     → Holds message thread more → IsBounded g.truth more → Lands s.next v (λ u t w. Keeps g slots acquiring past message thread t w) (keep acquiring held s)
 keep_fits {g = g} {thread = thread} acquiring past message more held knows fit owns is_held holds bounds =
     lands_as (keep_lands g acquiring thread past thread held message knows is_held.each owns.each fit

@@ -1,11 +1,11 @@
 -- All parts of an invariant passed on.
-use Rattle.std.proofs.Common.{◌≡◌, ℕ, ◌+◌, ◌≤◌, List, [], ◌∷◌, Some, ℤ, refl, sym, subst, ◌∙◌, arith}
+use Rattle.std.proofs.Common.{◌≡◌, ℕ, ◌+◌, ◌≤◌, List, [], ◌∷◌, ℤ, refl, sym, subst, ◌∙◌, arith}
 use Rattle.fsl_core.specs.declared.mode.Rung.{Rung}
 use Rattle.fsl_core.specs.declared.mode.Rung.TheVariants.{Msg}
 use Rattle.fsl_core.specs.logic.States.{State}
 use Rattle.fsl_core.specs.logic.Assertions.{Assertion}
 use Rattle.fsl_core.specs.logic.Locations.{Piece, pass_parts}
-use Rattle.fsl_core.specs.logic.Messages.{Held, Taking}
+use Rattle.fsl_core.specs.logic.Messages.{Held}
 use Rattle.fsl_lin.specs.Numbers.{Numbers}
 use Rattle.fsl_meaning.specs.Heaps.{Heap, nothing, Ground}
 use Rattle.fsl_meaning.specs.States.{Owns, All, Fits}
@@ -30,7 +30,8 @@ line_same n a e = omega arith
 line_more : (a b : ℕ) → a ≤ a + b
 line_more a b = omega arith
 
-each_passed : (g : Ground) {slots : List ℤ} {v : Numbers} {s : State} (second : Rung) (past message thread : Heap) (xs : List Piece) (ps : List Part) (held : List Held) → Fits slots (All g thread) v s
+each_passed : (g : Ground) {slots : List ℤ} {v : Numbers} {s : State} (second : Rung) (past message thread : Heap) (xs : List Piece) (ps : List Part) (held : List Held)
+    → Fits slots (All g thread) v s
     → EachPiece s.next v xs ps → Owns g s.next v (chunks_of held) message → AllHeld s.next v past held
     → Lands s.next v (λ hs t w. Passes g slots second past (parts_asked g.truth second ps) message thread (record { env = []; held = hs }) t w) (pass_parts second xs held s)
 each_passed g {s = s} second past message thread [] [] held fit each owns is_held = lands_give held s (record {
@@ -57,7 +58,8 @@ each_passed g {slots = slots} {v = v} {s = s} second past message thread (x ∷ 
     subst (λ (q : Assertion). Lands s.next v (λ t u w. Passes g slots second past asked message thread t u w) (q.pass second (record { env = x.env; held = held }) s)) (sym each.0)
     (pass_fits g p.asrt second past message thread slots v s x.env held p.numbers fit owns is_held each.1) in
     lands_then first (λ t u w r a.
-    lands_as (each_passed g second (λ k. past k + a.given k) a.kept a.left xs ps t.held a.fits (pieces_more {xs = xs} {ps = ps} r (record { each = each.2 })).each a.owns a.held) (λ hs u2 w2 r2 b. record {
+    lands_as (each_passed g second (λ k. past k + a.given k) a.kept a.left xs ps t.held a.fits (pieces_more {xs = xs} {ps = ps} r (record { each = each.2 })).each a.owns a.held)
+    (λ hs u2 w2 r2 b. record {
       need = both_asked a.need b.need;
       is = value_is asked a.need _ a.is ∙ value_is (parts_asked g.truth second ps) b.need _ b.is;
       known = passed_both g second a.need.claims b.need.claims a.known b.known;
@@ -75,7 +77,8 @@ each_passed g {slots = slots} {v = v} {s = s} second past message thread (x ∷ 
       env = b.env;
     }))
 
-pub parts_passed : {g : Ground} {slots : List ℤ} {v : Numbers} {s : State} {thread : Heap} {xs : List Piece} {ps : List Part} (second : Rung) (past message : Heap) (held : List Held) → Fits slots (All g thread) v s
+pub parts_passed : {g : Ground} {slots : List ℤ} {v : Numbers} {s : State} {thread : Heap} {xs : List Piece} {ps : List Part} (second : Rung) (past message : Heap) (held : List Held)
+    → Fits slots (All g thread) v s
     → ArePieces s.next v xs ps → Owns g s.next v (chunks_of held) message → AllHeld s.next v past held
     → Lands s.next v (λ hs t w. Passes g slots second past (parts_asked g.truth second ps) message thread (record { env = []; held = hs }) t w) (pass_parts second xs held s)
 parts_passed {g = g} {thread = thread} {xs = xs} {ps = ps} second past message held fit are owns is_held = each_passed g second past message thread xs ps held fit are.each owns is_held

@@ -5,10 +5,8 @@ use Rattle.fsl_core.specs.declared.assertion.Pat.{Pat}
 use Rattle.fsl_core.specs.declared.assertion.Pat.TheVariants as pat
 use Rattle.fsl_core.specs.declared.chunk.Chunk.{Chunk}
 use Rattle.fsl_core.specs.declared.chunk.Chunk.TheVariants as chunk
-use Rattle.fsl_core.specs.declared.expr.Cond.{Cond}
 use Rattle.fsl_core.specs.declared.mode.Rung.{Rung}
 use Rattle.fsl_core.specs.declared.mode.Rung.TheVariants.{Msg}
-use Rattle.fsl_core.specs.declared.verdict.Kind.TheVariants as kind
 use Rattle.fsl_core.specs.declared.verdict.Mood.TheVariants as mood
 use Rattle.fsl_core.specs.logic.States.{Env, State}
 use Rattle.fsl_core.specs.logic.Chunks.{Found, Cell}
@@ -26,7 +24,7 @@ use Rattle.fsl_meaning.proofs.Calculus.{lands_then, lands_give, tells_then}
 use Rattle.fsl_meaning.proofs.Heaps.{some_self}
 use Rattle.fsl_meaning.proofs.Owned.{IsFirst, pull, insert, each_less, each_later, owns_more}
 use Rattle.fsl_meaning.proofs.Joining.{tells_fitting}
-use Rattle.fsl_asserted.specs.Needs.{need, Asks, matched}
+use Rattle.fsl_asserted.specs.Needs.{Asks, matched}
 use Rattle.fsl_asserted.specs.Fitting.{ConsumeFits}
 use Rattle.fsl_asserted.proofs.Asking.{some_is, some_there, value_is, HasShare, less_parts, rest_less, both_less, part_within}
 use Rattle.fsl_asserted.proofs.Consuming.{tells_match, RestIs, lands_rest, lands_consume_cell}
@@ -80,7 +78,8 @@ pub record IsTaken (g : Ground) (n : ℕ) (v : Numbers) (past message : Heap) (b
   pub others : EachStands g n v (chunks_of (before ++ behind)) rest
   pub held : EachHeld n v past (before ++ behind)
 
-pub taken_of : {X : Type 0} {g : Ground} {n : ℕ} {v : Numbers} {past message : Heap} {held : List Held} (reads : Held → Option X) (f : Found Held X) → Owns g n v (chunks_of held) message → AllHeld n v past held
+pub taken_of : {X : Type 0} {g : Ground} {n : ℕ} {v : Numbers} {past message : Heap} {held : List Held} (reads : Held → Option X) (f : Found Held X) → Owns g n v (chunks_of held) message
+    → AllHeld n v past held
     → (i : IsFirst reads held f) → IsTaken g n v past message f.before f.behind i.item
 taken_of {g = g} {n = n} {v = v} {past = past} {message = message} {held = held} reads f owns is_held i =
     let each : EachStands g n v (chunks_of f.before ++ i.item.chunk ∷ chunks_of f.behind) message =
@@ -113,13 +112,15 @@ line_less : (a b m : ℕ) → a ≤ m → a - b ≤ m - b
 line_less a b m h = omega arith
 
 -- what is left of the message's chunk
-left_held : (g : Ground) (n : ℕ) (v : Numbers) (past message mine rest : Heap) (f : Found Held Cell) (loc : ℤ) (a b : ℕ) (o : Option Combination) → 1 ≤ b → Means n v f.is.at loc → IsKnown n v f.is.value (g.truth.value loc)
+left_held : (g : Ground) (n : ℕ) (v : Numbers) (past message mine rest : Heap) (f : Found Held Cell) (loc : ℤ) (a b : ℕ) (o : Option Combination) → 1 ≤ b → Means n v f.is.at loc
+    → IsKnown n v f.is.value (g.truth.value loc)
     → a ≤ mine (key.Cell Msg loc) → b ≤ a → RestIs n v a b o → Holds mine rest message → EachStands g n v (chunks_of (f.before ++ f.behind)) rest → EachHeld n v past (f.before ++ f.behind)
     → EachStands g n v (chunks_of (left_in f o)) (less message (key.Cell Msg loc) b) × EachHeld n v (λ k. past k + some_of (key.Cell Msg loc) b k) (left_in f o)
 left_held g n v past message mine rest f loc a b None some at_is value_is there few r holds others held =
     let cell = key.Cell Msg loc in (
       each_less g n v (chunks_of (f.before ++ f.behind)) rest (less message cell b) (rest_less mine rest message cell b holds (line_trans b a (mine cell) few there)) others,
-      (held_more {n = n} {m = n} {v = v} {w = v} {past = past} {held = f.before ++ f.behind} (λ k. past k + some_of cell b k) grows_here (λ k. line_more (past k) (some_of cell b k)) (record { each = held })).each,
+      (held_more {n = n} {m = n} {v = v} {w = v} {past = past} {held = f.before ++ f.behind} (λ k. past k + some_of cell b k) grows_here (λ k. line_more (past k) (some_of cell b k))
+          (record { each = held })).each,
     )
 left_held g n v past message mine rest f loc a b (Some r) some at_is value_is there few r_is holds others held =
     let cell = key.Cell Msg loc in
@@ -135,9 +136,11 @@ left_held g n v past message mine rest f loc a b (Some r) some at_is value_is th
     } in
     let inner : EachStands g n v (chunks_of f.before ++ chunks_of f.behind) rest = subst (λ (cs : List Chunk). EachStands g n v cs rest) (chunks_without f.before f.behind) others in
     let all : EachStands g n v (chunks_of f.before ++ item.chunk ∷ chunks_of f.behind) (less message cell b) =
-    insert g n v (chunks_of f.before) item.chunk (chunks_of f.behind) (less mine cell b) rest (less message cell b) (both_less mine rest message cell b holds (line_trans b a (mine cell) few there)) stands inner in
+    insert g n v (chunks_of f.before) item.chunk (chunks_of f.behind) (less mine cell b) rest (less message cell b)
+    (both_less mine rest message cell b holds (line_trans b a (mine cell) few there)) stands inner in
     let more : EachHeld n v (λ k. past k + some_of cell b k) (f.before ++ f.behind) =
-    (held_more {n = n} {m = n} {v = v} {w = v} {past = past} {held = f.before ++ f.behind} (λ k. past k + some_of cell b k) grows_here (λ k. line_more (past k) (some_of cell b k)) (record { each = held })).each in
+    (held_more {n = n} {m = n} {v = v} {w = v} {past = past} {held = f.before ++ f.behind} (λ k. past k + some_of cell b k) grows_here (λ k. line_more (past k) (some_of cell b k))
+    (record { each = held })).each in
     let got : 1 ≤ past cell + some_of cell b cell = line_past (past cell) b (some_of cell b cell) some (some_there cell b) in (
       subst (λ (cs : List Chunk). EachStands g n v cs (less message cell b)) (sym (chunks_between f.before item f.behind)) all,
       held_with n v (λ k. past k + some_of cell b k) f.before item f.behind (record { at_msg = refl; touched = λ e. record { loc = loc; at_is = at_is; some = got } }) more,
@@ -167,7 +170,8 @@ pub record PassesCell (g : Ground) (slots : List ℤ) (second : Rung) (past : He
   pub env : AllMean s.next w t.env numbers
 
 -- the message has enough of it
-pub enough_lands : (g : Ground) {slots : List ℤ} {v : Numbers} {s : State} (second : Rung) (past message thread : Heap) (env : Env) (held : List Held) (xs : List ℤ) (at k : Combination) (p : Pat) (x : Wanted Combination) (loc z : ℤ)
+pub enough_lands : (g : Ground) {slots : List ℤ} {v : Numbers} {s : State} (second : Rung) (past message thread : Heap) (env : Env) (held : List Held) (xs : List ℤ) (at k : Combination)
+    (p : Pat) (x : Wanted Combination) (loc z : ℤ)
     (share : HasShare z) (f : Found Held Cell) (a : ℕ) (mine rest : Heap) → Fits slots (All g thread) v s → AllMean s.next v env xs → WantedMeans s.next v xs p x → Means s.next v k (pos share.amount)
     → Means s.next v f.is.at loc → Means s.next v f.is.share (pos a) → IsKnown s.next v f.is.value (g.truth.value loc) → a ≤ mine (key.Cell Msg loc) → share.amount ≤ a → Holds mine rest message
     → EachStands g s.next v (chunks_of (f.before ++ f.behind)) rest → EachHeld s.next v past (f.before ++ f.behind)
@@ -209,8 +213,10 @@ line_need : (x y u w m : ℕ) → u + w ≡ m → x ≡ m → y ≡ u → x ≡ 
 line_need x y u w m e h k = omega arith
 
 -- the message has some of it, and the thread adds what lacks
-pub lacking_lands : (g : Ground) {slots : List ℤ} {v : Numbers} {s : State} (second : Rung) (past message thread : Heap) (env : Env) (held : List Held) (xs : List ℤ) (at k : Combination) (p : Pat) (x : Wanted Combination) (loc z : ℤ)
-    (share : HasShare z) (f : Found Held Cell) (a : ℕ) (mine rest : Heap) → Fits slots (All g thread) v s → AllMean s.next v env xs → WantedMeans s.next v xs p x → Means s.next v at loc → Means s.next v k (pos share.amount)
+pub lacking_lands : (g : Ground) {slots : List ℤ} {v : Numbers} {s : State} (second : Rung) (past message thread : Heap) (env : Env) (held : List Held) (xs : List ℤ) (at k : Combination)
+    (p : Pat) (x : Wanted Combination) (loc z : ℤ)
+    (share : HasShare z) (f : Found Held Cell) (a : ℕ) (mine rest : Heap) → Fits slots (All g thread) v s → AllMean s.next v env xs → WantedMeans s.next v xs p x → Means s.next v at loc
+    → Means s.next v k (pos share.amount)
     → Means s.next v f.is.share (pos a) → IsKnown s.next v f.is.value (g.truth.value loc) → a ≤ mine (key.Cell Msg loc) → a < share.amount → Holds mine rest message
     → EachStands g s.next v (chunks_of (f.before ++ f.behind)) rest → EachHeld s.next v past (f.before ++ f.behind)
     → Lands s.next v (λ t u w. PassesCell g slots second past p loc z xs message thread t u w) (pass_share second at k x (record { env = env; held = held }) f false s)
@@ -234,10 +240,14 @@ lacking_lands g {slots = slots} {v = v} {s = s} second past message thread env h
       left = less thread (key.Cell second loc) n;
       message_is = less_parts message cell a (part_within mine rest message cell a holds there);
       thread_is = less_parts thread (key.Cell second loc) n c.enough;
-      need_is = λ y. line_need (some_of (key.Cell second loc) b y) (lifted Msg second (some_of cell a) y) (some_of (key.Cell second loc) a y) (some_of (key.Cell second loc) n y) (some_of (key.Cell second loc) (a + n) y)
+      need_is = λ y. line_need (some_of (key.Cell second loc) b y) (lifted Msg second (some_of cell a) y) (some_of (key.Cell second loc) a y) (some_of (key.Cell second loc) n y)
+          (some_of (key.Cell second loc) (a + n) y)
           (some_both (key.Cell second loc) a n y) (ap (λ (i : ℕ). some_of (key.Cell second loc) i y) (sym whole)) (sym (lifted_some Msg second loc a y));
       fits = c.fits;
-      owns = record { each = each_less g t.next w (chunks_of (f.before ++ f.behind)) rest (less message cell a) (rest_less mine rest message cell a holds there) (each_later g (chunks_of (f.before ++ f.behind)) rest q others) };
+      owns = record {
+        each = each_less g t.next w (chunks_of (f.before ++ f.behind)) rest (less message cell a) (rest_less mine rest message cell a holds there)
+            (each_later g (chunks_of (f.before ++ f.behind)) rest q others);
+      };
       held = held_more (λ y. past y + some_of cell a y) q (λ y. line_more (past y) (some_of cell a y)) (record { each = is_held });
       env = all_more q m.env;
     }))))

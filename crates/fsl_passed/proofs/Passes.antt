@@ -7,7 +7,6 @@ use Rattle.fsl_core.specs.declared.assertion.Asrt.TheViews.{roll-Asrt}
 use Rattle.fsl_core.specs.declared.assertion.Asrt.TheFolds.{ind-Asrt, map-Asrt, fold-roll-Asrt}
 use Rattle.fsl_core.specs.declared.assertion.Pat.{Pat}
 use Rattle.fsl_core.specs.declared.chunk.Chunk.{Chunk}
-use Rattle.fsl_core.specs.declared.chunk.Chunk.TheVariants as chunk
 use Rattle.fsl_core.specs.declared.expr.Cond.{Cond}
 use Rattle.fsl_core.specs.declared.expr.Expr.{Expr}
 use Rattle.fsl_core.specs.declared.mode.Rung.{Rung}
@@ -72,18 +71,25 @@ is_enough a b h = grind arith
 is_lacking : (a b : ℕ) → nat_le b a ≡ false → a < b
 is_lacking a b h = grind arith
 
-share_by : (g : Ground) {slots : List ℤ} {v : Numbers} {s : State} (second : Rung) (past message thread : Heap) (env : Env) (held : List Held) (xs : List ℤ) (a k : Combination) (p : Pat) (x : Wanted Combination) (loc z : ℤ) (share : HasShare z)
-    (f : Found Held Cell) (amount : ℕ) (mine rest : Heap) (b : Bool) → b ≡ nat_le share.amount amount → Fits slots (All g thread) v s → AllMean s.next v env xs → WantedMeans s.next v xs p x → Means s.next v a loc
-    → Means s.next v k (pos share.amount) → Means s.next v f.is.at loc → Means s.next v f.is.share (pos amount) → IsKnown s.next v f.is.value (g.truth.value loc) → amount ≤ mine (key.Cell Msg loc) → Holds mine rest message
+share_by : (g : Ground) {slots : List ℤ} {v : Numbers} {s : State} (second : Rung) (past message thread : Heap) (env : Env) (held : List Held) (xs : List ℤ) (a k : Combination) (p : Pat)
+    (x : Wanted Combination) (loc z : ℤ) (share : HasShare z)
+    (f : Found Held Cell) (amount : ℕ) (mine rest : Heap) (b : Bool) → b ≡ nat_le share.amount amount → Fits slots (All g thread) v s → AllMean s.next v env xs
+    → WantedMeans s.next v xs p x → Means s.next v a loc
+    → Means s.next v k (pos share.amount) → Means s.next v f.is.at loc → Means s.next v f.is.share (pos amount) → IsKnown s.next v f.is.value (g.truth.value loc) → amount ≤ mine
+    (key.Cell Msg loc) → Holds mine rest message
     → EachStands g s.next v (chunks_of (f.before ++ f.behind)) rest → EachHeld s.next v past (f.before ++ f.behind)
     → Lands s.next v (λ t u w. PassesCell g slots second past p loc z xs message thread t u w) (pass_share second a k x (record { env = env; held = held }) f b s)
 share_by g second past message thread env held xs a k p x loc z share f amount mine rest true e fit all x_is a_is k_is at_is share_is value_is there holds others is_held =
-    enough_lands g second past message thread env held xs a k p x loc z share f amount mine rest fit all x_is k_is at_is share_is value_is there (is_enough amount share.amount (sym e)) holds others is_held
+    enough_lands g second past message thread env held xs a k p x loc z share f amount mine rest fit all x_is k_is at_is share_is value_is there
+    (is_enough amount share.amount (sym e)) holds others is_held
 share_by g second past message thread env held xs a k p x loc z share f amount mine rest false e fit all x_is a_is k_is at_is share_is value_is there holds others is_held =
-    lacking_lands g second past message thread env held xs a k p x loc z share f amount mine rest fit all x_is a_is k_is share_is value_is there (is_lacking amount share.amount (sym e)) holds others is_held
+    lacking_lands g second past message thread env held xs a k p x loc z share f amount mine rest fit all x_is a_is k_is share_is value_is there
+    (is_lacking amount share.amount (sym e)) holds others is_held
 
-cell_lands : (g : Ground) {slots : List ℤ} {v : Numbers} {s : State} (second : Rung) (past message thread : Heap) (env : Env) (held : List Held) (xs : List ℤ) (a k : Combination) (p : Pat) (x : Wanted Combination) (loc z : ℤ) (share : HasShare z)
-    (o : Option (Found Held Cell)) → o ≡ first (λ h. cell_at Msg a s.facts h.chunk) held → Fits slots (All g thread) v s → Owns g s.next v (chunks_of held) message → AllHeld s.next v past held → AllMean s.next v env xs
+cell_lands : (g : Ground) {slots : List ℤ} {v : Numbers} {s : State} (second : Rung) (past message thread : Heap) (env : Env) (held : List Held) (xs : List ℤ) (a k : Combination) (p : Pat)
+    (x : Wanted Combination) (loc z : ℤ) (share : HasShare z)
+    (o : Option (Found Held Cell)) → o ≡ first (λ h. cell_at Msg a s.facts h.chunk) held → Fits slots (All g thread) v s → Owns g s.next v (chunks_of held) message
+    → AllHeld s.next v past held → AllMean s.next v env xs
     → WantedMeans s.next v xs p x → Means s.next v a loc → Means s.next v k z
     → Lands s.next v (λ t u w. PassesCell g slots second past p loc z xs message thread t u w) (pass_cell second a k x (record { env = env; held = held }) o s)
 cell_lands g second past message thread env held xs a k p x loc z share None e fit owns is_held all x_is a_is k_is =
@@ -115,7 +121,8 @@ cell_lands g {slots = slots} {v = v} {s = s} second past message thread env held
     let value_is = subst (λ (l : ℤ). IsKnown s.next v f.is.value (g.truth.value l)) same own.value_is in
     let b_is = means_as share.is k_is in
     let amount = own.amount in
-    lands_end _ (lands_then (lands_sides (picked_at_most k (pos 0) f.is.share (nat_le share.amount amount) fit b_is own.share_is (line_enough amount share.amount) (line_lacks amount share.amount))) (λ b t w q c.
+    lands_end _ (lands_then (lands_sides (picked_at_most k (pos 0) f.is.share (nat_le share.amount amount) fit b_is own.share_is (line_enough amount share.amount)
+    (line_lacks amount share.amount))) (λ b t w q c.
     share_by g second past message thread env held xs a k p x loc z share f amount taken.mine taken.rest b c.0 c.1 (all_more q all) (wanted_more xs p x q x_is) (means_more q a_is) (means_more q b_is)
     (means_more q (means_as same own.at_is)) (means_more q own.share_is) (known_more f.is.value (g.truth.value loc) q value_is) there taken.holds
     (each_later g (chunks_of (f.before ++ f.behind)) taken.rest q taken.others) (held_more {held = f.before ++ f.behind} past q (λ j. line_self (past j)) (record { each = taken.held })).each))
@@ -128,7 +135,8 @@ points_pass g at share p second past message thread slots v s env held xs fit ow
     tells_then _ (reads_term share fit all) (λ k k_is.
     tells_then _ (reads_wanted p fit all) (λ x x_is.
     tells_then _ (tells_share k fit k_is) (λ u amount.
-    lands_end _ (lands_as (cell_lands g second past message thread env held xs a k p x loc z amount (first (λ h. cell_at Msg a s.facts h.chunk) held) refl fit owns is_held all x_is a_is k_is) (λ t u2 w r c. record {
+    lands_end _ (lands_as (cell_lands g second past message thread env held xs a k p x loc z amount
+    (first (λ h. cell_at Msg a s.facts h.chunk) held) refl fit owns is_held all x_is a_is k_is) (λ t u2 w r c. record {
       need = need (some_of (key.Cell second loc) c.share.amount) [] c.numbers;
       is = value_is (positive z) c.share.amount _ c.share.positive ∙ value_is (matched p (g.truth.value loc) xs) c.numbers _ c.matches;
       known = tt;
@@ -147,7 +155,8 @@ points_pass g at share p second past message thread slots v s env held xs fit ow
 
 -- ---- that a location was written
 
-init_tells : (g : Ground) {slots : List ℤ} {v : Numbers} {s : State} {thread : Heap} (second : Rung) (past message : Heap) (held : List Held) (a : Combination) (loc : ℤ) (o : Option (Found Held Combination))
+init_tells : (g : Ground) {slots : List ℤ} {v : Numbers} {s : State} {thread : Heap} (second : Rung) (past message : Heap) (held : List Held) (a : Combination) (loc : ℤ)
+    (o : Option (Found Held Combination))
     → o ≡ first (λ h. init_at Msg a s.facts h.chunk) held → Fits slots (All g thread) v s → Owns g s.next v (chunks_of held) message → AllHeld s.next v past held → Means s.next v a loc
     → Tells s (λ u. IsPassed g second (claim.IsInit second loc)) (pass_init second a o s)
 init_tells g {v = v} {s = s} second past message held a loc (Some f) e fit owns is_held a_is =
@@ -188,7 +197,8 @@ init_pass g at second past message thread slots v s env held xs fit owns is_held
 
 -- ---- several
 
-chosen_pass : (g : Ground) (a b : Passing) (asked_a asked_b : Asks) (side : Bool) → PassFits g a asked_a → PassFits g b asked_b → PassFits g (chosen a b side) (λ rung xs. if side then asked_a rung xs else asked_b rung xs)
+chosen_pass : (g : Ground) (a b : Passing) (asked_a asked_b : Asks) (side : Bool) → PassFits g a asked_a → PassFits g b asked_b → PassFits g (chosen a b side)
+    (λ rung xs. if side then asked_a rung xs else asked_b rung xs)
 chosen_pass g a b asked_a asked_b true p q = p
 chosen_pass g a b asked_a asked_b false p q = q
 
@@ -196,7 +206,8 @@ pub choice_pass : (g : Ground) (c : Cond) (a b : Passing) (asked_a asked_b : Ask
     → PassFits g (choice_passed (cond_of expr_of c) a b) (λ rung xs. if exact_cond c xs then asked_a rung xs else asked_b rung xs)
 choice_pass g c a b asked_a asked_b p q second past message thread slots v s env held xs fit owns is_held all =
     lands_then (lands_decided (cond_of expr_of c) (exact_cond c) (judges_cond c) fit all) (λ side t w r f.
-    subst (λ (z : Bool). Lands t.next w (Passes g slots second past (if z then asked_a second xs else asked_b second xs) message thread) (chosen a b side second (record { env = env; held = held }) t)) f.0
+    subst (λ (z : Bool). Lands t.next w (Passes g slots second past (if z then asked_a second xs else asked_b second xs) message thread)
+    (chosen a b side second (record { env = env; held = held }) t)) f.0
     (chosen_pass g a b asked_a asked_b side p q second past message thread slots w t env held xs f.1 (owns_more r owns) (held_more past r (λ j. line_self (past j)) is_held) (all_more r all)))
 
 abbrev pub AllPassFit : Ground → List Passing → List Asks → Type 0

@@ -1,7 +1,7 @@
 -- What the thread keeps of what is left of a message. It stands where the read puts what it gains: at plain, where the
 -- thread acquires, and else at down. But shares of a cell join those of the thread, at plain, where the thread has one of
 -- this cell and the message that is written has got one too.
-use Rattle.std.specs.Prelude.{ℕ, ◌+◌, ◌≤◌, Bool, List, ℤ, if◌then◌else◌}
+use Rattle.std.specs.Prelude.{◌+◌, ◌≤◌, Bool, List, ℤ, if◌then◌else◌}
 use Rattle.fsl_core.specs.declared.mode.Rung.{Rung}
 use Rattle.fsl_core.specs.declared.mode.Rung.TheVariants.{Plain, Down, Msg}
 use Rattle.fsl_core.specs.logic.States.{State}

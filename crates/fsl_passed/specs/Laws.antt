@@ -23,7 +23,8 @@ AsrtPasses = (g : Ground) (a : Asrt) → PassFits g (asrt_of a).pass (asks g.tru
 
 -- so do all parts of an invariant, one after the other
 abbrev pub PartsPass : Type 0
-PartsPass = (g : Ground) (second : Rung) (past message thread : Heap) (slots : List ℤ) (v : Numbers) (s : State) (xs : List Piece) (ps : List Part) (held : List Held) → Fits slots (All g thread) v s
+PartsPass = (g : Ground) (second : Rung) (past message thread : Heap) (slots : List ℤ) (v : Numbers) (s : State) (xs : List Piece) (ps : List Part) (held : List Held)
+    → Fits slots (All g thread) v s
     → ArePieces s.next v xs ps → Owns g s.next v (chunks_of held) message → AllHeld s.next v past held
     → Lands s.next v (λ hs t w. Passes g slots second past (parts_asked g.truth second ps) message thread (record { env = []; held = hs }) t w) (pass_parts second xs held s)
 

@@ -22,7 +22,8 @@ use Rattle.fsl_updated.specs.Updates.{MayReplace, IsDealt, LeavesMean, HasLeaves
 
 -- ---- leaves
 
-pub leaves_tell : {g : Ground} {slots : List ℤ} {v : Numbers} {s : State} {h : Heap} {loc : ℤ} (a : Combination) → Fits slots (All g h) v s → Means s.next v a loc → Tells s (HasLeaves g s.next v loc) (find_leaves a s)
+pub leaves_tell : {g : Ground} {slots : List ℤ} {v : Numbers} {s : State} {h : Heap} {loc : ℤ} (a : Combination) → Fits slots (All g h) v s → Means s.next v a loc
+    → Tells s (HasLeaves g s.next v loc) (find_leaves a s)
 leaves_tell {g = g} {v = v} {s = s} {loc = loc} a fit a_is =
     tells_on _ (tells_find_or kind.Init (init_at Plain a) fit) (λ f out.
     let r = init_read Plain a s.facts out.item f.is out.reads_as in
@@ -94,7 +95,8 @@ found_by : {X Y : Type 0} {Q : Type 0} (s : State) (v : Numbers) (bs : Branches 
 found_by s v bs f x i (inl q) = inl q
 found_by s v bs f x i (inr e) = inr (fails_behind s v bs f x i e)
 
-pub finds_then : {X Y : Type 0} {s : State} {P : X → Type 0} {Q : Type 0} (v : Numbers) (bs : Branches X) (f : X → Rule Y) → Tells s P bs → ((x : X) → P x → Q ⊎ Fails (f x s)) → Q ⊎ Fails (followed bs f)
+pub finds_then : {X Y : Type 0} {s : State} {P : X → Type 0} {Q : Type 0} (v : Numbers) (bs : Branches X) (f : X → Rule Y) → Tells s P bs → ((x : X) → P x → Q ⊎ Fails (f x s))
+    → Q ⊎ Fails (followed bs f)
 finds_then {s = s} v bs f (tell.tells x i p) k = found_by s v bs f x i (k x p)
 finds_then {s = s} v bs f (tell.stops why i) k = inr (fails_at s v bs f why i)
 

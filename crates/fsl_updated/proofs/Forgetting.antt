@@ -53,11 +53,13 @@ forgotten_by : (g : Ground) (n : ℕ) (v : Numbers) (c : Chunk) (cs : List Chunk
 forgotten_by g n v c cs h true e rest o = rest h o
 forgotten_by g n v c cs h false e rest o = (o.0, o.1, o.2, stands_forgotten g n v c o.0 e o.3, rest o.1 o.4)
 
-each_forgotten : (g : Ground) (n : ℕ) (v : Numbers) (cs : List Chunk) (h : Heap) → EachStands g n v (filter (λ c. not (is_at Msg c)) cs) h → EachStands (forgetting g) n v (filter (λ c. not (is_at Msg c)) cs) h
+each_forgotten : (g : Ground) (n : ℕ) (v : Numbers) (cs : List Chunk) (h : Heap) → EachStands g n v (filter (λ c. not (is_at Msg c)) cs) h
+    → EachStands (forgetting g) n v (filter (λ c. not (is_at Msg c)) cs) h
 each_forgotten g n v [] h o = tt
 each_forgotten g n v (c ∷ cs) h o = forgotten_by g n v c (filter (λ d. not (is_at Msg d)) cs) h (is_at Msg c) refl (λ m p. each_forgotten g n v cs m p) o
 
-pub lands_forget : {g : Ground} {slots : List ℤ} {v : Numbers} {s : State} {h : Heap} → Fits slots (All g h) v s → Lands s.next v (λ cs t w. Fits slots (All (forgetting g) (without Msg h)) w t) (take_all Msg s)
+pub lands_forget : {g : Ground} {slots : List ℤ} {v : Numbers} {s : State} {h : Heap} → Fits slots (All g h) v s
+    → Lands s.next v (λ cs t w. Fits slots (All (forgetting g) (without Msg h)) w t) (take_all Msg s)
 lands_forget {g = g} {v = v} {s = s} {h = h} fit = lands_give (filter (is_at Msg) s.chunks) (record s { chunks = filter (λ c. not (is_at Msg c)) s.chunks }) (record {
   one = fit.one;
   facts = fit.facts;

@@ -117,7 +117,8 @@ pieces_of {n = n} {v = v} {t = t} {args = args} {x = x} p l inv e all is =
 line_self : (a : ℕ) → a ≤ a
 line_self a = omega arith
 
-pub replace_fits : {g : Ground} {slots : List ℤ} {v : Numbers} {s : State} {h : Heap} {inv : ℕ} {args : List ℤ} {x y : ℤ} (p : Program) (read : Ground) (m : Mode) (steps : List Step) (l : Leaves) (o new : Combination) (more : Heap)
+pub replace_fits : {g : Ground} {slots : List ℤ} {v : Numbers} {s : State} {h : Heap} {inv : ℕ} {args : List ℤ} {x y : ℤ} (p : Program) (read : Ground) (m : Mode) (steps : List Step)
+    (l : Leaves) (o new : Combination) (more : Heap)
     → LeavesMean s.next v l inv args → Means s.next v o x → Means s.next v new y → Reads g read (parts_in p inv args x) h more → Fits slots (All g h) v s
     → Lands s.next v (λ u t w. Replaces read m steps slots (parts_in p inv args y) more slots t w) (replace (setting_of asrt_of p) m (map (step_of expr_of) steps) l o new s)
 replace_fits {slots = slots} {h = h} {inv = inv} {args = args} {x = x} {y = y} p read m steps l o new more leaves o_is new_is reads fit =
@@ -137,8 +138,10 @@ replace_fits {slots = slots} {h = h} {inv = inv} {args = args} {x = x} {y = y} p
     lands_then (parts_passed {ps = parts_in p inv args y} (giving m) nothing (lifted Msg Msg after) (map untouched cs) apart.fits
     (pieces_of p l.rel inv leaves5.rel_inv leaves5.rel_args (means_more r new_is)) apart.owns apart.held) (λ held s6 w6 r6 b.
     lands_as (keep_fits {g = last} (acquires m) (λ k. nothing k + b.given k) b.kept after held (learned read truth (gaining m))
-    (fits_kept last (learns_more read truth (gaining m) b.left) (agrees_self truth b.left) b.fits) (owns_kept last (learns_more read truth (gaining m) b.kept) (agrees_self truth b.kept) b.owns) b.held
-    (λ k. line_both (lifted Msg Msg after k) (without Msg after k) (after k) (b.kept k) (b.given k) (b.left k) (b.added k) (divided after k) (b.message_is k) (b.thread_is k)) made.bounded) (λ u7 s7 w7 r7 c. record {
+    (fits_kept last (learns_more read truth (gaining m) b.left) (agrees_self truth b.left) b.fits)
+    (owns_kept last (learns_more read truth (gaining m) b.kept) (agrees_self truth b.kept) b.owns) b.held
+    (λ k. line_both (lifted Msg Msg after k) (without Msg after k) (after k) (b.kept k) (b.given k) (b.left k) (b.added k) (divided after k) (b.message_is k) (b.thread_is k)) made.bounded)
+    (λ u7 s7 w7 r7 c. record {
       may = made.may;
       need = b.need;
       is = b.is;
@@ -156,7 +159,8 @@ replace_fits {slots = slots} {h = h} {inv = inv} {args = args} {x = x} {y = y} p
     }))))))
 
 -- and the old value is the variable's
-pub lands_set_replaced : {read : Ground} {m : Mode} {steps : List Step} {slots : List ℤ} {parts : List Part} {more : Heap} {later : List ℤ} {s : State} {w : Numbers} {o : Combination} {x : ℤ} (slot : ℕ)
+pub lands_set_replaced : {read : Ground} {m : Mode} {steps : List Step} {slots : List ℤ} {parts : List Part} {more : Heap} {later : List ℤ} {s : State} {w : Numbers} {o : Combination}
+    {x : ℤ} (slot : ℕ)
     → Replaces read m steps slots parts more later s w → Means s.next w o x → Lands s.next w (λ u t w2. Replaces read m steps slots parts more (slice_set later slot x) t w2) (set slot o s)
 lands_set_replaced slot q is = lands_as (lands_set slot q.fits is) (λ u t w r fits. record {
   may = q.may;

@@ -62,15 +62,18 @@ pub record IsMade (g : Ground) (slots : List ℤ) (mint : Bool) (number z : ℤ)
 is_amount : (z : ℤ) (n : ℕ) → z ≡ pos n → z ≡ pos (amount_of z)
 is_amount z n e = subst (λ (x : ℤ). x ≡ pos (amount_of x)) (sym e) refl
 
-made_of : (g : Ground) {slots : List ℤ} {w : Numbers} {s : State} {h : Heap} (mint : Bool) (number z : ℤ) → IsBounded g.truth h → Steps mint g slots number z h s w → IsMade g slots mint number z h s w
+made_of : (g : Ground) {slots : List ℤ} {w : Numbers} {s : State} {h : Heap} (mint : Bool) (number z : ℤ) → IsBounded g.truth h → Steps mint g slots number z h s w
+    → IsMade g slots mint number z h s w
 made_of g {slots = slots} {w = w} {s = s} {h = h} true number z bounds c = record {
   may = record { is = is_amount z c.amount c.is; there = c.there; enough = λ e. absurd (let d : true ≡ false = e in cc) };
-  bounded = subst (λ (x : ℤ). IsBounded (allowing number (g.truth.bank number +ℤ x) g.truth) (with_more h (key.Tokens number) (amount_of x))) (sym c.is) (minted_bounds g.truth h number c.amount bounds);
+  bounded = subst (λ (x : ℤ). IsBounded (allowing number (g.truth.bank number +ℤ x) g.truth) (with_more h (key.Tokens number) (amount_of x))) (sym c.is)
+    (minted_bounds g.truth h number c.amount bounds);
   fits = subst (λ (x : ℤ). Fits slots (All (grounded g (allowing number (g.truth.bank number +ℤ x) g.truth)) (with_more h (key.Tokens number) (amount_of x))) w s) (sym c.is) c.fits;
 }
 made_of g {slots = slots} {w = w} {s = s} {h = h} false number z bounds c = record {
   may = record { is = is_amount z c.amount c.is; there = c.there; enough = λ e. subst (λ (x : ℤ). amount_of x ≤ h (key.Tokens number)) (sym c.is) c.enough };
-  bounded = subst (λ (x : ℤ). IsBounded (allowing number (g.truth.bank number -ℤ x) g.truth) (less h (key.Tokens number) (amount_of x))) (sym c.is) (burned_bounds g.truth h number c.amount c.enough bounds);
+  bounded = subst (λ (x : ℤ). IsBounded (allowing number (g.truth.bank number -ℤ x) g.truth) (less h (key.Tokens number) (amount_of x))) (sym c.is)
+    (burned_bounds g.truth h number c.amount c.enough bounds);
   fits = subst (λ (x : ℤ). Fits slots (All (grounded g (allowing number (g.truth.bank number -ℤ x) g.truth)) (less h (key.Tokens number) (amount_of x))) w s) (sym c.is) c.fits;
 }
 
@@ -82,7 +85,8 @@ each_step g {s = s} [] h bounds fit = lands_give tt s (record { may = tt; bounde
 each_step g {slots = slots} (x ∷ xs) h bounds fit =
     lands_then (step_fits x bounds fit) (λ u t w r c.
     let made = made_of g x.mint (bank_number x.bank slots) (exact x.n slots) bounds c in
-    lands_as (each_step (grounded g (step_truth slots x g.truth)) xs (step_heap slots x h) made.bounded made.fits) (λ u2 t2 w2 r2 k. record { may = (made.may, k.may); bounded = k.bounded; fits = k.fits }))
+    lands_as (each_step (grounded g (step_truth slots x g.truth)) xs (step_heap slots x h) made.bounded made.fits)
+    (λ u2 t2 w2 r2 k. record { may = (made.may, k.may); bounded = k.bounded; fits = k.fits }))
 
 pub steps_fit : {g : Ground} {slots : List ℤ} {v : Numbers} {s : State} {h : Heap} (xs : List Step) → IsBounded g.truth h → Fits slots (All g h) v s
     → Lands s.next v (λ u t w. MakesSteps g slots xs h t w) (token_steps (map (step_of expr_of) xs) s)

@@ -44,7 +44,8 @@ exchange_tells {v = v} p slot m at e steps fit =
     finds_then v _ _ (reads_term e fit fit.env) (λ n n_is.
     finds_then v _ _ (leaves_tell a fit a_is) (λ l k. inl (may_replace l k)))))
 
-pub exchange_fits : {g : Ground} {slots : List ℤ} {v : Numbers} {s : State} {h : Heap} {inv : ℕ} {args : List ℤ} (p : Program) (read : Ground) (slot : ℕ) (m : Mode) (at e : Expr) (steps : List Step) (x : ℤ) (more : Heap)
+pub exchange_fits : {g : Ground} {slots : List ℤ} {v : Numbers} {s : State} {h : Heap} {inv : ℕ} {args : List ℤ} (p : Program) (read : Ground) (slot : ℕ) (m : Mode) (at e : Expr)
+    (steps : List Step) (x : ℤ) (more : Heap)
     → IsDealt g (exact at slots) inv args → Reads g read (parts_in p inv args x) h more → Fits slots (All g h) v s
     → Lands s.next v (λ u t w. Replaces read m steps slots (parts_in p inv args (exact e slots)) more (slice_set slots slot x) t w)
     (exchange (setting_of asrt_of p) slot m (expr_of at) (expr_of e) (map (step_of expr_of) steps) s)
@@ -98,9 +99,11 @@ add_tells {v = v} p slot m at e steps fit =
     finds_then v _ _ (reads_term e fit fit.env) (λ n n_is.
     finds_then v _ _ (leaves_tell a fit a_is) (λ l k. inl (may_replace l k)))))
 
-pub add_fits : {g : Ground} {slots : List ℤ} {v : Numbers} {s : State} {h : Heap} {inv : ℕ} {args : List ℤ} (p : Program) (read : Ground) (slot : ℕ) (m : Mode) (at e : Expr) (steps : List Step) (x y : ℤ) (more : Heap)
+pub add_fits : {g : Ground} {slots : List ℤ} {v : Numbers} {s : State} {h : Heap} {inv : ℕ} {args : List ℤ} (p : Program) (read : Ground) (slot : ℕ) (m : Mode) (at e : Expr)
+    (steps : List Step) (x y : ℤ) (more : Heap)
     → IsDealt g (exact at slots) inv args → in_range (x +ℤ exact e slots) ≡ Some y → Reads g read (parts_in p inv args x) h more → Fits slots (All g h) v s
-    → Lands s.next v (λ u t w. Replaces read m steps slots (parts_in p inv args y) more (slice_set slots slot x) t w) (fetch_add (setting_of asrt_of p) slot m (expr_of at) (expr_of e) (map (step_of expr_of) steps) s)
+    → Lands s.next v (λ u t w. Replaces read m steps slots (parts_in p inv args y) more (slice_set slots slot x) t w)
+    (fetch_add (setting_of asrt_of p) slot m (expr_of at) (expr_of e) (map (step_of expr_of) steps) s)
 add_fits {g = g} {slots = slots} {h = h} p read slot m at e steps x y more dealt range reads fit =
     let z = x +ℤ exact e slots in
     let i = is_in_range z y range in
@@ -112,7 +115,8 @@ add_fits {g = g} {slots = slots} {h = h} p read slot m at e steps x y more dealt
     lands_then (lands_at_most (constant (negsuc (2 ^ 63 - 1))) (pos 0) sum f.0 (means_constant (negsuc (2 ^ 63 - 1))) sum_is i.low) (λ u2 t2 w2 r2 f2.
     lands_then (lands_at_most sum (pos 0) (constant (pos (2 ^ 63 - 1))) f2 (means_more r2 sum_is) (means_constant (pos (2 ^ 63 - 1))) i.high) (λ u3 t3 w3 r3 f3.
     let q = grows_then r2 r3 in
-    lands_then (replace_fits p read m steps l o sum more (leaves_more (grows_then r q) (leaves_mean l dealt k)) (means_more q f.1) (means_as i.same (means_more q sum_is)) reads f3) (λ u4 t4 w4 r4 done.
+    lands_then (replace_fits p read m steps l o sum more (leaves_more (grows_then r q) (leaves_mean l dealt k)) (means_more q f.1) (means_as i.same (means_more q sum_is)) reads f3)
+    (λ u4 t4 w4 r4 done.
     lands_set_replaced slot done (means_more r4 (means_more q f.1)))))))))))
 
 -- ---- compare-exchange
@@ -126,7 +130,8 @@ cas_tells {v = v} p slot m at old new steps fit =
     finds_then v _ _ (leaves_tell a fit a_is) (λ l k. inl (may_replace l k))))))
 
 -- it is replaced, or not, and the old value is the variable's
-compared_fits : {g : Ground} {slots : List ℤ} {v : Numbers} {s : State} {h : Heap} {inv : ℕ} {args : List ℤ} {x y : ℤ} (p : Program) (read : Ground) (slot : ℕ) (m : Mode) (steps : List Step) (l : Leaves) (o n : Combination) (more : Heap) (b : Bool)
+compared_fits : {g : Ground} {slots : List ℤ} {v : Numbers} {s : State} {h : Heap} {inv : ℕ} {args : List ℤ} {x y : ℤ} (p : Program) (read : Ground) (slot : ℕ) (m : Mode) (steps : List Step)
+    (l : Leaves) (o n : Combination) (more : Heap) (b : Bool)
     → LeavesMean s.next v l inv args → Means s.next v o x → Means s.next v n y → (b ≡ true → Reads g read (parts_in p inv args x) h more) → Fits slots (All g h) v s
     → Lands s.next v (λ u t w. Compares b g read m steps slots (parts_in p inv args y) h more (slice_set slots slot x) t w)
     (followed (chosen (replace (setting_of asrt_of p) m (map (step_of expr_of) steps) l o n) done b s) (λ u. set slot o))
@@ -134,7 +139,8 @@ compared_fits p read slot m steps l o n more true leaves o_is n_is reads fit =
     lands_then (replace_fits p read m steps l o n more leaves o_is n_is (reads refl) fit) (λ u t w r q. lands_set_replaced slot q (means_more r o_is))
 compared_fits p read slot m steps l o n more false leaves o_is n_is reads fit = lands_then (lands_done fit) (λ u t w r f. lands_set slot f (means_more r o_is))
 
-pub cas_fits : {g : Ground} {slots : List ℤ} {v : Numbers} {s : State} {h : Heap} {inv : ℕ} {args : List ℤ} (p : Program) (read : Ground) (slot : ℕ) (m : Mode) (at old new : Expr) (steps : List Step) (x : ℤ) (more : Heap)
+pub cas_fits : {g : Ground} {slots : List ℤ} {v : Numbers} {s : State} {h : Heap} {inv : ℕ} {args : List ℤ} (p : Program) (read : Ground) (slot : ℕ) (m : Mode) (at old new : Expr)
+    (steps : List Step) (x : ℤ) (more : Heap)
     → IsDealt g (exact at slots) inv args → (int_eq x (exact old slots) ≡ true → Reads g read (parts_in p inv args x) h more) → Fits slots (All g h) v s
     → Lands s.next v (λ u t w. Compares (int_eq x (exact old slots)) g read m steps slots (parts_in p inv args (exact new slots)) h more (slice_set slots slot x) t w)
     (cas (setting_of asrt_of p) slot m (expr_of at) (expr_of old) (expr_of new) (map (step_of expr_of) steps) s)

@@ -29,7 +29,8 @@ use Rattle.fsl_updated.specs.Updates.{MayReplace, IsDealt, LeavesMean, HasLeaves
 
 -- what stood at msg goes, and what was known of that message
 abbrev pub ForgetFits : Type 0
-ForgetFits = (g : Ground) (slots : List ℤ) (h : Heap) (v : Numbers) (s : State) → Fits slots (All g h) v s → Lands s.next v (λ cs t w. Fits slots (All (forgetting g) (without Msg h)) w t) (take_all Msg s)
+ForgetFits = (g : Ground) (slots : List ℤ) (h : Heap) (v : Numbers) (s : State) → Fits slots (All g h) v s
+    → Lands s.next v (λ cs t w. Fits slots (All (forgetting g) (without Msg h)) w t) (take_all Msg s)
 
 -- tokens are minted and burned, as the authorities that are there allow
 abbrev pub StepsFit : Type 0
@@ -43,7 +44,8 @@ LeavesTell = (g : Ground) (slots : List ℤ) (h : Heap) (v : Numbers) (s : State
 
 -- x is read and replaced by y
 abbrev pub ReplaceFits : Type 0
-ReplaceFits = (p : Program) (g read : Ground) (slots : List ℤ) (h more : Heap) (v : Numbers) (s : State) (m : Mode) (steps : List Step) (l : Leaves) (o new : Combination) (inv : ℕ) (args : List ℤ) (x y : ℤ)
+ReplaceFits = (p : Program) (g read : Ground) (slots : List ℤ) (h more : Heap) (v : Numbers) (s : State) (m : Mode) (steps : List Step) (l : Leaves) (o new : Combination) (inv : ℕ)
+    (args : List ℤ) (x y : ℤ)
     → LeavesMean s.next v l inv args → Means s.next v o x → Means s.next v new y → Reads g read (parts_in p inv args x) h more → Fits slots (All g h) v s
     → Lands s.next v (λ u t w. Replaces read m steps slots (parts_in p inv args y) more slots t w) (replace (setting_of asrt_of p) m (map (step_of expr_of) steps) l o new s)
 
@@ -68,7 +70,8 @@ AddTells = (g : Ground) (slots : List ℤ) (h : Heap) (v : Numbers) (s : State) 
 abbrev pub AddFits : Type 0
 AddFits = (p : Program) (g read : Ground) (slots : List ℤ) (h more : Heap) (v : Numbers) (s : State) (slot : ℕ) (m : Mode) (at e : Expr) (steps : List Step) (inv : ℕ) (args : List ℤ) (x y : ℤ)
     → IsDealt g (exact at slots) inv args → in_range (x +ℤ exact e slots) ≡ Some y → Reads g read (parts_in p inv args x) h more → Fits slots (All g h) v s
-    → Lands s.next v (λ u t w. Replaces read m steps slots (parts_in p inv args y) more (slice_set slots slot x) t w) (fetch_add (setting_of asrt_of p) slot m (expr_of at) (expr_of e) (map (step_of expr_of) steps) s)
+    → Lands s.next v (λ u t w. Replaces read m steps slots (parts_in p inv args y) more (slice_set slots slot x) t w)
+    (fetch_add (setting_of asrt_of p) slot m (expr_of at) (expr_of e) (map (step_of expr_of) steps) s)
 
 abbrev pub CasTells : Type 0
 CasTells = (g : Ground) (slots : List ℤ) (h : Heap) (v : Numbers) (s : State) (p : Setting) (slot : ℕ) (m : Mode) (at old new : Expr) (steps : List TokenStep) → Fits slots (All g h) v s
