@@ -1,0 +1,5 @@
+pub mod Holding
+pub mod Keeping
+pub mod Parts
+pub mod Passed
+pub mod Passes

@@ -1,0 +1,4 @@
+pub mod Grounds
+pub mod Laws
+pub mod Steps
+pub mod Updates

@@ -1,0 +1,4 @@
+//! That read-modify-writes keep what a symbolic state means.
+#![tactic(auto)]
+
+pub mod laws;
