@@ -5,12 +5,12 @@ use Rattle.fsl_commands.specs.declared.answer.Answer.{Answer}
 use Rattle.fsl_commands.specs.declared.command.Command.TheVariants.{Check}
 use Rattle.fsl_commands.specs.declared.unread.Unread.{Unread}
 use Rattle.fsl_commands.specs.Changes.{Reading}
-use Rattle.fsl_commands.specs.Check.{IsChecked, judged, refused, verdict_answer}
+use Rattle.fsl_commands.specs.Check.{IsChecked, IsVerdictOn, judged, refused}
 use Rattle.fsl_commands.specs.Loading.{CausedBy, IsProgramOf}
 use Rattle.fsl_commands.specs.Unread.{refusal}
 
 pub judged_is : {E : Type 0} (r : Reading) (bytes : List ℕ) (p : Program) → IsProgramOf Check r bytes p
-    → (result : Result Answer E) → IfOk result (λ a. a ≡ verdict_answer bytes p) → IfOk result (λ a. IsChecked r a)
+    → (result : Result Answer E) → IfOk result (IsVerdictOn bytes p) → IfOk result (λ a. IsChecked r a)
 judged_is r bytes p program (Ok a) is = judged bytes p program is
 judged_is r bytes p program (Err e) is = tt
 

@@ -2,6 +2,7 @@
 use Rattle.std.proofs.Common.{◌≡◌, ℕ, List, Some, Result, Ok, Err, IfOk}
 use Rattle.fsl_core.specs.Programs.{Program}
 use Rattle.fsl_core.specs.logic.Verdicts.{verdict_of}
+use Rattle.fsl_derived.specs.Laws.{AcceptedIsSafe}
 use Rattle.fsl_graph.specs.declared.graph.Graph.{Graph}
 use Rattle.fsl_graph.specs.declared.ending.End.{End}
 use Rattle.fsl_run.specs.Running.{IsRunOf}
@@ -24,7 +25,7 @@ pub not_read_is : {E : Type 0} (r : Reading) (steps : ℕ) (none : Unread) → C
 not_read_is r steps none cause (Ok a) is = has_none none cause is
 not_read_is r steps none cause (Err e) is = tt
 
-pub runs_so : {E : Type 0} (bytes : List ℕ) (p : Program) (steps : ℕ) (g : Graph) (end : End) → verdict_status (verdict_of p) ≡ 0 → IsRunOf p steps g end
+pub runs_so : {E : Type 0} (bytes : List ℕ) (p : Program) (steps : ℕ) (g : Graph) (end : End) → verdict_status (verdict_of p) ≡ 0 → AcceptedIsSafe p → IsRunOf p steps g end
     → (result : Result Answer E) → IfOk result (λ a. a ≡ run_answer g end) → IfOk result (IsRunAnswer bytes p steps)
-runs_so bytes p steps g end accepted is (Ok a) said = runs accepted g end is said
-runs_so bytes p steps g end accepted is (Err e) said = tt
+runs_so bytes p steps g end accepted safe is (Ok a) said = runs accepted safe g end is said
+runs_so bytes p steps g end accepted safe is (Err e) said = tt

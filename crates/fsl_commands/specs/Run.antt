@@ -3,6 +3,7 @@ use Rattle.std.specs.Prelude.{◌≡◌, ℕ, List, Some}
 use Rattle.fsl_core.specs.Programs.{Program}
 use Rattle.fsl_core.specs.logic.Verdicts.{verdict_of}
 use Rattle.fsl_exec_text.specs.Texts.{execution_text}
+use Rattle.fsl_derived.specs.Laws.{AcceptedIsSafe}
 use Rattle.fsl_graph.specs.declared.graph.Graph.{Graph}
 use Rattle.fsl_graph.specs.declared.ending.End.{End}
 use Rattle.fsl_graph.specs.declared.ending.End.TheVariants as ends
@@ -30,7 +31,7 @@ run_answer g end = answer (end_status end) (execution_text g end)
 -- the answer of `run` on the program that these bytes are: the verdict of the rules where it fails, else one run
 pub data IsRunAnswer (bytes : List ℕ) (p : Program) (steps : ℕ) (a : Answer) : Type 0 where
   fails : verdict_status (verdict_of p) ≡ 1 → a ≡ verdict_answer bytes p → IsRunAnswer bytes p steps a
-  runs : verdict_status (verdict_of p) ≡ 0 → (g : Graph) (end : End) → IsRunOf p steps g end → a ≡ run_answer g end
+  runs : verdict_status (verdict_of p) ≡ 0 → AcceptedIsSafe p → (g : Graph) (end : End) → IsRunOf p steps g end → a ≡ run_answer g end
       → IsRunAnswer bytes p steps a
 
 -- an answer of `run`: that on the one program that the file is, or a refusal with its cause

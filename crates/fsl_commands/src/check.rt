@@ -3,7 +3,7 @@ ghost use Rattle.std.specs.Prelude.{◌≡◌, ◌≤◌, length, IfOk, IsTrue};
 ghost use Rattle.fsl_flow.specs.Supported.{is_supported};
 ghost use Rattle.fsl_commands.specs.Answer.{IsSaid};
 ghost use Rattle.fsl_commands.specs.Changes.{reading, writing};
-ghost use Rattle.fsl_commands.specs.Check.{IsChecked, verdict_answer, verdict_status};
+ghost use Rattle.fsl_commands.specs.Check.{IsChecked, IsVerdictOn, verdict_status};
 
 use crate::answer::{Answer, say};
 use crate::command::Command;
@@ -39,7 +39,7 @@ fn judged<R: Threads + Sync, G: Gate>(
     requires within { length loaded.now.bytes ≤ 1048576 }
     requires some { 1 ≤ workers }
     requires few { workers ≤ 64 }
-    ensures { IfOk result (λ a. a ≡ verdict_answer loaded.now.bytes loaded.now.program) }
+    ensures { IfOk result (IsVerdictOn loaded.now.bytes loaded.now.program) }
 {
     let verdict = judge(rt, alloc, &loaded.program, workers, gate)?;
     let text = verdict_text(alloc, loaded.bytes.as_slice(), &loaded.program, &verdict)?;

@@ -173,9 +173,9 @@ two_threads_whole = refl
 pub examples_are_safe : ExamplesAreSafe
 examples_are_safe = record {
   one_cell_is = one_cell_accepted;
-  one_cell_is_safe = cells_are_safe one_cell 1 one_cell_well one_cell_covered one_cell_accepted;
+  one_cell_is_safe = cells_are_safe one_cell one_cell_well 1 one_cell_accepted one_cell_covered;
   two_threads_are = two_threads_accepted;
-  two_threads_are_safe = cells_are_safe two_threads 2 two_threads_well two_threads_covered two_threads_accepted;
+  two_threads_are_safe = cells_are_safe two_threads two_threads_well 2 two_threads_accepted two_threads_covered;
 }
   where
     one_cell_accepted : verdict_of one_cell ≡ Accepted 1

@@ -19,4 +19,4 @@ derived_is_safe p derived g last execution consistent acyclic =
     good_is_safe (logic_of p) p g last (λ o call ys s n. thread_good p derived o call ys s n) (main_starts p derived.well) execution consistent acyclic
 
 pub cells_are_safe : CellsAreSafe
-cells_are_safe p n well covered accepted = derived_is_safe p (record { well = well; covered = covered; each = accepted_derived (ends_of p) 0 0 n p.procs accepted })
+cells_are_safe p well n accepted covered = derived_is_safe p (record { well = well; covered = covered; each = accepted_derived (ends_of p) 0 0 n p.procs accepted })

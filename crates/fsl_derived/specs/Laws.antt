@@ -16,6 +16,9 @@ use Rattle.fsl_walk.specs.Covered.{covers_program}
 abbrev pub IsSafeAlways : Program → Type 0
 IsSafeAlways p = (g : Graph) (last : ℕ → Config) → IsExecution p g last → IsConsistent g → IsAcyclic g → IsSafe g last
 
--- a program that the rules accept is safe, where it has no atomic locations and no banks
+-- where the rules accept p, and it has neither atomic locations nor banks, it is safe
+abbrev pub AcceptedIsSafe : Program → Type 0
+AcceptedIsSafe p = (n : ℕ) → verdict_of p ≡ Accepted n → covers_program p ≡ true → IsSafeAlways p
+
 abbrev pub CellsAreSafe : Type 0
-CellsAreSafe = (p : Program) (n : ℕ) → is_well_formed p ≡ true → covers_program p ≡ true → verdict_of p ≡ Accepted n → IsSafeAlways p
+CellsAreSafe = (p : Program) → is_well_formed p ≡ true → AcceptedIsSafe p

@@ -3,10 +3,12 @@ ghost use Rattle.std.specs.Prelude.{◌≡◌, ◌≤◌, ◌<◌, IfOk, IsTrue,
 ghost use Rattle.fsl_core.specs.logic.Paths.{ends_of};
 ghost use Rattle.fsl_core.specs.logic.Verdicts.{outcomes, verdict_of};
 ghost use Rattle.fsl_flow.specs.Supported.{is_supported};
+ghost use Rattle.fsl_sound.specs.Judged.{IsJudged};
 ghost use Rattle.fsl_sound.specs.Supported.{IsSupported};
 
 use fsl_base::Gate;
 use fsl_check::{Work, check_all};
+use fsl_core::laws::programs_are_well_formed;
 use fsl_core::{Outcome, Program, Verdict};
 use fsl_flow::outcome;
 use std::alloc::{AllocError, Global};
@@ -36,9 +38,28 @@ impl<'a> Work for Procedures<'a> {
 }
 
 /// The verdict on a program: the failure of its least procedure that fails, else their number. It is the same for
-/// every number of workers, from 1 to 64. The gate is called before each procedure that is judged; one behind another
-/// that failed may be left out.
+/// every number of workers, from 1 to 64. Where it accepts a program with neither atomic locations nor banks, every
+/// consistent execution without a cycle is safe. The gate is called before each procedure that is judged; one behind
+/// another that failed may be left out.
+#[tactic(auto, using(crate::proofs::Judged::is_judged))]
 pub fn judge<R: Threads + Sync, G: Gate>(
+    rt: &R,
+    alloc: Global,
+    p: &Program,
+    workers: u32,
+    gate: &G,
+) -> Result<Verdict, AllocError>
+    requires supported { IsTrue (is_supported p.now) }
+    requires some { 1 ≤ workers }
+    requires few { workers ≤ 64 }
+    ensures { IfOk result (IsJudged p.now) }
+{
+    programs_are_well_formed(p);
+    verdict(rt, alloc, p, workers, gate)
+}
+
+/// The verdict of the rules.
+fn verdict<R: Threads + Sync, G: Gate>(
     rt: &R,
     alloc: Global,
     p: &Program,

@@ -1,5 +1,5 @@
-//! The judge of a program: its procedures on several workers, by the written rules. That an accepted program is
-//! safe in every execution will be a clause of the same call.
+//! The judge of a program: its procedures on several workers, by the written rules; and that what it accepts is safe in
+//! every execution.
 #![tactic(auto)]
 
 mod judging;

@@ -12,8 +12,9 @@ judge-requires-clause-supported g c κs within = supported c.args.loaded.program
 pub returns-then-status-eq0 : goal.returns-then-status-eq0
 returns-then-status-eq0 g c =
     let verdict = c.in_ok-verdict.ensures in
+    let said = verdict.is in
     let status = c.verdict_status-status.ensures in
     let zero = c.if-status-eq0.true in
     let accepted : verdict_status (verdict_of c.args.loaded.program) ≡ 0 = cc in
     runs_so c.args.loaded.bytes c.args.loaded.program c.args.how.steps c.in_ok-run.field-0.graph c.in_ok-run.field-0.end accepted
-    c.in_ok-run.ensures c.ended.result c.ended.ensures
+    verdict.safe c.in_ok-run.ensures c.ended.result c.ended.ensures

@@ -1,6 +1,6 @@
 use denote.Param.Send.{sendable}
 use Rattle.fsl_sound.proofs.Shared.{program_sync}
-use Rattle.fsl_sound.proofs.judging.judge.Goals as goal
+use Rattle.fsl_sound.proofs.judging.verdict.Goals as goal
 
 -- the procedures hold a program that is shared
 pub check_all-requires-sync-W : goal.check_all-requires-sync-W
