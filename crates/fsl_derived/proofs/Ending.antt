@@ -1,6 +1,5 @@
 -- The end of a thread: the outermost procedure gives back what its contract ensures.
-use Rattle.std.proofs.Common.{◌≡◌, ℕ, zero, suc, ◌+◌, ◌≤◌, ◌==◌, Bool, true, false, List, [], ◌∷◌, ◌++◌, length, map, None, ℤ, pos, slice_get, slice_set, refl, sym, ap, ◌∙◌, subst, arith}
-use Rattle.std.specs.List.{list_any}
+use Rattle.std.proofs.Common.{◌≡◌, ℕ, zero, suc, ◌+◌, ◌≤◌, true, false, List, [], ◌∷◌, ◌++◌, length, map, None, ℤ, pos, sym, ap, ◌∙◌, subst, arith}
 use Rattle.fsl_base.specs.declared.span.Span.{Span}
 use Rattle.fsl_core.specs.declared.assertion.Asrt.{Asrt}
 use Rattle.fsl_core.specs.declared.declaration.Proc.{Proc}
@@ -15,14 +14,14 @@ use Rattle.fsl_core.specs.logic.Paths.{Reading, each, path_ends, closing, all_se
 use Rattle.fsl_lin.specs.Combination.{Combination}
 use Rattle.fsl_lin.specs.Numbers.{Numbers}
 use Rattle.fsl_meaning.specs.Means.{Means}
-use Rattle.fsl_meaning.specs.Heaps.{Key, Heap, Claim, AllKnown, nothing}
+use Rattle.fsl_meaning.specs.Heaps.{Key, Heap, Claim, AllKnown}
 use Rattle.fsl_meaning.proofs.Terms.{means_constant}
 use Rattle.fsl_asserted.specs.Carried.{IsPlain}
 use Rattle.fsl_kept.proofs.Calls.{finish_fits}
 use Rattle.fsl_own.specs.Atoms.{Atom}
 use Rattle.fsl_good.specs.Pieces.{AtPlain, Piece, all_placed, Entails, IsPossible}
 use Rattle.fsl_good.specs.Good.{Ends}
-use Rattle.fsl_held.specs.Heaps.{heap_of, truth_of, ground_of, Kept}
+use Rattle.fsl_held.specs.Heaps.{heap_of, truth_of, ground_of}
 use Rattle.fsl_held.specs.Asked.{Satisfies, Debt, owes_nothing, owes, OwedFor, logic_of}
 use Rattle.fsl_walk.specs.Stances.{AllDerived, Activation, Stance, Runs, Returns}
 use Rattle.fsl_walk.specs.Walks.{IsClosed}

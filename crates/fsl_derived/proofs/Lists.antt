@@ -1,5 +1,5 @@
 -- Pieces that are taken out of others.
-use Rattle.std.proofs.Common.{◌≡◌, ℕ, ◌+◌, ◌≤◌, ℤ, refl, List, [], ◌∷◌, ◌++◌, sym, ap, ◌∙◌, subst, arith}
+use Rattle.std.proofs.Common.{◌≡◌, ℕ, ◌+◌, ◌≤◌, List, [], ◌∷◌, ◌++◌, ap, ◌∙◌, arith}
 use Rattle.fsl_own.specs.Atoms.{Atom}
 use Rattle.fsl_good.specs.Pieces.{together, AtPlain, Piece, all_placed, demand_at, Entails}
 use Rattle.fsl_good.proofs.Pieces.{demand_more, right_first, right_last, right_more}

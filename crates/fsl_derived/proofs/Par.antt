@@ -1,6 +1,6 @@
 -- Calls that run side by side: each is started with what it requires, and when all have ended, what they ensure stands
 -- beside what was left.
-use Rattle.std.proofs.Common.{◌≡◌, ℕ, ◌+◌, ◌≤◌, true, false, inl, List, [], ◌∷◌, ◌++◌, map, length, Option, Some, None, ℤ, refl, arith}
+use Rattle.std.proofs.Common.{◌≡◌, ℕ, ◌+◌, ◌≤◌, true, false, List, [], ◌++◌, map, length, Option, Some, None, ℤ, refl, arith}
 use Rattle.std.specs.List.{list_all}
 use Rattle.fsl_base.specs.declared.span.Span.{Span}
 use Rattle.fsl_core.specs.declared.act.Called.{Called}
@@ -8,7 +8,7 @@ use Rattle.fsl_core.specs.declared.act.Stmt.{Stmt}
 use Rattle.fsl_core.specs.declared.label.Ended.{Ended}
 use Rattle.fsl_core.specs.declared.need.Started.{Started as Start}
 use Rattle.fsl_core.specs.declared.scope.Scope.{Scope}
-use Rattle.fsl_core.specs.Moves.{Config, running, joining, failed, Frame, forking, started_of}
+use Rattle.fsl_core.specs.Moves.{joining, forking, started_of}
 use Rattle.fsl_core.specs.Scopes.{passes}
 use Rattle.fsl_core.specs.WellFormed.{child_fits, is_well_formed}
 use Rattle.fsl_core.specs.logic.States.{State, followed, here}
@@ -25,14 +25,14 @@ use Rattle.fsl_kept.specs.Threads.{Started, started, AllRun, all_needs, with_bin
 use Rattle.fsl_kept.proofs.Threads.{args_tell, starts_fit, joins_fit}
 use Rattle.fsl_own.specs.Atoms.{Atom}
 use Rattle.fsl_good.specs.Pieces.{together, AtPlain, Piece, all_placed, IsPossible}
-use Rattle.fsl_good.specs.Good.{EachPays, Spawns, Good}
+use Rattle.fsl_good.specs.Good.{EachPays}
 use Rattle.fsl_held.specs.Heaps.{heap_of, ground_of, Kept}
 use Rattle.fsl_held.specs.Asked.{logic_of}
 use Rattle.fsl_walk.specs.Stances.{AllDerived, Activation, config_of, IsGood, IsGoodMove, Stance, Matches, Runs}
 use Rattle.fsl_walk.specs.Walks.{ParMoves}
 use Rattle.fsl_walk.proofs.Rounds.{kept_less, kept_then, frame_fits, bounded}
 use Rattle.fsl_walk.proofs.Steps.{derived_left, each_tells, each_lands, each_followed, good_possible, good_halting}
-use Rattle.fsl_derived.proofs.Passing.{EachStarted, all_started, all_owed, each_starts}
+use Rattle.fsl_derived.proofs.Passing.{all_started, all_owed, each_starts}
 use Rattle.fsl_derived.proofs.Cutting.{cut_all, values_of, paid_all}
 use Rattle.fsl_derived.proofs.Moving.{joining_good, forking_good}
 
