@@ -66,7 +66,8 @@ pub cut_all : (p : Program) (ds : List Start) (ks : List Started) (ns : List Nee
 cut_all p [] [] [] h xs started possible asked room =
     record { atoms = []; rest = xs; gives = entails_self xs; satisfied = tt; kept = kept_self xs h; enough = λ k. line_none (h k) (heap_of xs k) (room k) }
 cut_all p (d ∷ ds) (s ∷ ks) (n ∷ ns) h xs started possible asked room =
-    let one = need_is_parted p.invs xs s.proc.pre s.numbers n possible started.0.pre_is_plain (record { is = asked.0; known = asked.1 }) (λ k. line_first (h k) (n.heap k) (all_needs ns k) (heap_of xs k) (room k)) in
+    let one = need_is_parted p.invs xs s.proc.pre s.numbers n possible started.0.pre_is_plain (record { is = asked.0; known = asked.1 })
+    (λ k. line_first (h k) (n.heap k) (all_needs ns k) (heap_of xs k) (room k)) in
     let left : (k : Key) → h k + all_needs ns k ≤ heap_of one.rest k = λ k. line_others (h k) (n.heap k) (all_needs ns k) (heap_of xs k) (heap_of one.rest k) (room k) (one.left k) in
     let asked_on = requires_kept xs one.rest ks ns one.kept (λ k. line_needed (h k) (all_needs ns k) (heap_of one.rest k) (left k)) asked.2 in
     let more = cut_all p ds ks ns h one.rest started.1 one.possible asked_on left in

@@ -63,7 +63,8 @@ dropped : (xs : List Piece) (ys : List Atom) (rest : List Piece) → Entails xs 
 dropped xs ys rest e = entails_then e (entails_front (all_placed AtPlain ys) rest)
 
 ends : (p : Program) (o : Debt) (q : Proc) (env : List ℤ) → proc_is_scoped p.procs q ≡ true → length env ≡ q.slots → OwedFor p o q env
-    → (under : Heap) (xs : List Piece) (slots : List ℤ) (v : Numbers) (s : State) (t : Combination) (x : ℤ) (at : Span) → IsPossible xs → Stance xs under slots v s → AtStart q env slots → Means s.next v t x
+    → (under : Heap) (xs : List Piece) (slots : List ℤ) (v : Numbers) (s : State) (t : Combination) (x : ℤ) (at : Span) → IsPossible xs → Stance xs under slots v s
+    → AtStart q env slots → Means s.next v t x
     → AllDerived (each at (finish (asrt_of q.post) t s) (λ y. path_ends at)) → Ends (logic_of p) o x xs
 ends p owes_nothing q env scoped long owed under xs slots v s t x at possible stance same means derived = record { atoms = []; gives = entails_none xs; pays = tt }
 ends p (owes post e) q env scoped long owed under xs slots v s t x at possible stance same means derived =
@@ -77,7 +78,8 @@ ends p (owes post e) q env scoped long owed under xs slots v s t x at possible s
     record {
       atoms = parted.atoms;
       gives = dropped xs parted.atoms parted.rest parted.gives;
-      pays = (seen.0, subst (λ (a : Asrt). Satisfies a (e ++ x ∷ []) seen.0 parted.atoms) (sym owed.0) (subst (λ (zs : List ℤ). Satisfies q.post (zs ++ x ∷ []) seen.0 parted.atoms) (sym owed.1) parted.satisfies));
+      pays = (seen.0, subst (λ (a : Asrt). Satisfies a (e ++ x ∷ []) seen.0 parted.atoms) (sym owed.0)
+          (subst (λ (zs : List ℤ). Satisfies q.post (zs ++ x ∷ []) seen.0 parted.atoms) (sym owed.1) parted.satisfies));
     }
 
 pub end_returns : (p : Program) (o : Debt) (q : Proc) (env : List ℤ) (m : ℕ) (base : List Piece) (under : Heap) → proc_is_scoped p.procs q ≡ true → length env ≡ q.slots → OwedFor p o q env

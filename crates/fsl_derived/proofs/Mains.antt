@@ -24,7 +24,8 @@ use Rattle.fsl_held.specs.Asked.{owes_nothing, StartsWith, logic_of}
 false_is : {X : Type 0} → false ≡ true → X
 false_is e = absurd (cc)
 
-layer_empty : (t : Truth) (rung : Rung) (xs : List ℤ) (l : Asrt-F Asrt) → emp_step (map-Asrt Asrt Bool is_emp l) ≡ true → asks_step t (map-Asrt Asrt Asks (asks t) l) rung xs ≡ Some (need nothing [] xs)
+layer_empty : (t : Truth) (rung : Rung) (xs : List ℤ) (l : Asrt-F Asrt) → emp_step (map-Asrt Asrt Bool is_emp l) ≡ true
+    → asks_step t (map-Asrt Asrt Asks (asks t) l) rung xs ≡ Some (need nothing [] xs)
 layer_empty t rung xs Asrt-F.Emp h = refl
 layer_empty t rung xs l h = false_is h
 

@@ -59,7 +59,9 @@ forking_shows : (u : Activation) (m : ℕ) (ds : List Start) (after : ℕ → Co
     → Allows (logic_of u.program) u.debt (need.Fork ds) shown (λ waits ys. Good (logic_of u.program) u.program u.debt m next waits ys) [] xs
 forking_shows u m ds after xs h (reply.Threads first) shown next e =
     shows_so u m (need.Fork ds) (label.Fork (numbers_from first (length ds))) shown (after first) next xs e
-    (λ calls same. let is : ds ≡ calls = cc in subst (λ (cs : List Start). Spawns (logic_of u.program) cs (λ waits ys. Good (logic_of u.program) u.program u.debt m (after first) waits ys) xs) is (h first))
+    (λ calls same.
+    let is : ds ≡ calls = cc in
+    subst (λ (cs : List Start). Spawns (logic_of u.program) cs (λ waits ys. Good (logic_of u.program) u.program u.debt m (after first) waits ys) xs) is (h first))
 forking_shows u m ds after xs h reply.Nothing shown next e = absurd (quiet e)
 forking_shows u m ds after xs h (reply.Place x) shown next e = absurd (quiet e)
 forking_shows u m ds after xs h (reply.Read x) shown next e = absurd (quiet e)

@@ -44,7 +44,8 @@ line_padded k l r n e f i = omega arith
 
 padded_long : (k : ℕ) (xs : List ℤ) → length xs ≤ k → length (padded_numbers k xs) ≡ k
 padded_long k xs room =
-    line_padded k (length xs) (length (replicate (k - length xs) (pos 0))) (length (padded_numbers k xs)) (length-append xs (replicate (k - length xs) (pos 0))) (length-replicate (k - length xs) (pos 0)) room
+    let zeros = replicate (k - length xs) (pos 0) in
+    line_padded k (length xs) (length zeros) (length (padded_numbers k xs)) (length-append xs zeros) (length-replicate (k - length xs) (pos 0)) room
 
 body_fits : (p : Program) (q : Proc) → proc_fits p q ≡ true → list_all (stmt_fits p) q.body ≡ true
 body_fits p q h =
