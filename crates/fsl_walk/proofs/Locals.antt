@@ -48,10 +48,11 @@ use Rattle.fsl_good.specs.Good.{Allows, Good}
 use Rattle.fsl_held.specs.Heaps.{heap_of, truth_of, ground_of, value_in, or_else, Kept}
 use Rattle.fsl_held.specs.Parts.{TakesCell, ReadsCell, IsInFront}
 use Rattle.fsl_held.specs.Asked.{logic_of}
+use Rattle.fsl_held.proofs.Cells.{cell_is_taken, cell_is_read}
+use Rattle.fsl_held.proofs.Fronts.{front_is_kept}
 use Rattle.fsl_walk.specs.Stances.{AllDerived, Activation, config_of, IsGood, IsGoodMove, Stance, Matches, Runs}
 use Rattle.fsl_walk.specs.Walks.{IsClosed}
 use Rattle.fsl_scoped.proofs.Exactly.{reads_exact, tests_exact}
-use Rattle.fsl_walk.proofs.Assumed.{cell_taken, cell_read, front_kept}
 use Rattle.fsl_walk.proofs.Slots.{sees_same, closed_one}
 use Rattle.fsl_walk.proofs.Rounds.{kept_less, kept_then, frame_fits, bounded, left_within, right_within}
 use Rattle.fsl_walk.proofs.Steps.{Landed, each_lands, good_possible, quiet, good_local, good_halting, good_given, shows_so}
@@ -170,7 +171,7 @@ line_front all front rest some e f = omega arith
 front_sum : (c : ℤ) (n : ℕ) (o : Option ℤ) (xs : List Piece) → IsPossible (plain (Points c n o) ∷ xs) → (k : Key) → heap_of (plain (Points c n o) ∷ xs) k ≡ some_of (key.Cell Plain c) n k + heap_of xs k
 front_sum c n o xs possible k =
     line_front (heap_of (plain (Points c n o) ∷ xs) k) (heap_of (plain (Points c n o) ∷ []) k) (heap_of xs k) (some_of (key.Cell Plain c) n k)
-    ((front_kept (plain (Points c n o) ∷ []) xs possible).sum k) (points_heap c n o k)
+    ((front_is_kept (plain (Points c n o) ∷ []) xs possible).sum k) (points_heap c n o k)
 
 -- ---- a new cell
 
@@ -193,7 +194,7 @@ alloc_stance : {under : Heap} {xs : List Piece} {slots : List ℤ} {v : Numbers}
 alloc_stance {under = under} {xs = xs} {slots = slots} u after slot at loc some stance d possible =
     let ys = plain (Points loc full None) ∷ xs in
     let new = some_of (key.Cell Plain loc) full in
-    let behind = (front_kept (plain (Points loc full None) ∷ []) xs possible).behind in
+    let behind = (front_is_kept (plain (Points loc full None) ∷ []) xs possible).behind in
     let fits = frame_fits stance.mine (kept_less stance.mine (heap_of xs) (left_within stance.mine under (heap_of xs) stance.parts) behind) stance.fits in
     let landed = each_lands at (λ x. after) (alloc_fits slot loc (λ k. new k + stance.mine k) fits (positive loc some) (holds_plus new stance.mine)) d in
     record {
@@ -214,7 +215,7 @@ alloc_moves {scope = scope} {Q = Q} {under = under} {xs = xs} {slots = slots} {e
     good_placed u m (need.Alloc kind.Na) (λ loc. label.Alloc kind.Na loc) (λ loc. config_of u rest (slice_set env slot loc)) xs (λ n. absurd (cc)) (λ loc some.
     good_possible u m (config_of u rest (slice_set env slot loc)) (plain (Points loc full None) ∷ xs) (λ f. absurd (cc)) (λ possible.
     let landed = alloc_stance u after slot at loc some here.stance d possible in
-    let behind = (front_kept (plain (Points loc full None) ∷ []) xs possible).behind in
+    let behind = (front_is_kept (plain (Points loc full None) ∷ []) xs possible).behind in
     runs m (line_self m) (plain (Points loc full None) ∷ xs) (slice_set slots slot loc) (slice_set env slot loc) landed.numbers landed.state
     (kept_then here.kept (kept_less under (heap_of xs) (right_within here.stance.mine under (heap_of xs) here.stance.parts) behind)) landed.is
     (sees_same scope env slots slot sight.Local loc here.matches) (closed_one Q slots slot loc closed here.holds) landed.derived))
@@ -236,7 +237,7 @@ load_moves {scope = scope} {Q = Q} {under = under} {xs = xs} {slots = slots} {en
     let same = read_is e loc here.matches reads is in
     let some : 1 ≤ mine (key.Cell Plain loc) = subst (λ (l : ℤ). 1 ≤ mine (key.Cell Plain l)) same loads.some in
     let says : value_in xs loc ≡ Some loads.value = subst (λ (l : ℤ). value_in xs l ≡ Some loads.value) same loads.is in
-    let read = cell_read loc loads.value xs here.possible (line_there 1 (mine (key.Cell Plain loc)) (under (key.Cell Plain loc)) (heap_of xs (key.Cell Plain loc)) some (here.stance.parts (key.Cell Plain loc))) says in
+    let read = cell_is_read loc loads.value xs here.possible (line_there 1 (mine (key.Cell Plain loc)) (under (key.Cell Plain loc)) (heap_of xs (key.Cell Plain loc)) some (here.stance.parts (key.Cell Plain loc))) says in
     good_read u m (need.Load Na loc) (λ y. label.Load Na loc y) (λ y. config_of u rest (slice_set env slot y)) xs (λ n. absurd (cc)) (λ y. record {
       share = read.share;
       value = loads.value;
@@ -294,7 +295,7 @@ abbrev stored : (c x : ℤ) (xs : List Piece) → TakesCell c xs → List Piece
 stored c x xs taken = plain (Points c full (Some x)) ∷ taken.rest
 
 rest_kept : (c x : ℤ) (xs : List Piece) (taken : TakesCell c xs) → IsPossible (stored c x xs taken) → Kept xs (heap_of taken.rest) (stored c x xs taken)
-rest_kept c x xs taken possible = kept_then taken.kept (front_kept (plain (Points c full (Some x)) ∷ []) taken.rest possible).behind
+rest_kept c x xs taken possible = kept_then taken.kept (front_is_kept (plain (Points c full (Some x)) ∷ []) taken.rest possible).behind
 
 stored_value : (c x l z : ℤ) (said left : Option ℤ) (b : Bool) → int_eq l c ≡ b → (int_eq l c ≡ false → said ≡ Some z → left ≡ Some z)
     → (if b then Some x else said) ≡ Some z → or_else (if b then Some x else None) left ≡ Some z
@@ -347,7 +348,7 @@ store_moves {under = under} {xs = xs} {slots = slots} {env = env} u m after stmt
     good_given u m (value_of e env) (λ loc. given (value_of f env) (λ x. record { need = need.Store Na loc x; answered = λ r. showing (label.Store Na loc x) (config_of u rest env) })) xs (λ loc is_loc.
     good_given u m (value_of f env) (λ x. record { need = need.Store Na loc x; answered = λ r. showing (label.Store Na loc x) (config_of u rest env) }) xs (λ x is.
     let stores = store_as (ground_of xs) (read_is e loc here.matches reads_e is_loc) (read_is f x here.matches reads_f is) landed.is in
-    let taken = cell_taken loc xs here.possible (whole_there loc mine under xs stores.whole parts) in
+    let taken = cell_is_taken loc xs here.possible (whole_there loc mine under xs stores.whole parts) in
     good_shown u m (need.Store Na loc x) (label.Store Na loc x) (config_of u rest env) xs (λ n. absurd (cc)) (record {
       share = full; old = taken.old; rest = taken.rest; gives = taken.gives; whole = line_self full;
       next = good_possible u m (config_of u rest env) (stored loc x xs taken) (λ g. absurd (cc)) (λ possible.
@@ -376,7 +377,7 @@ free_moves {under = under} {xs = xs} {slots = slots} {env = env} u m after stmt 
     let landed = each_lands at (λ x. after) (free_fits e here.stance.fits) d in
     good_given u m (value_of e env) (λ loc. record { need = need.Free loc; answered = λ r. showing (label.Free loc) (config_of u rest env) }) xs (λ loc is.
     let stores = subst (λ (c : ℤ). Stores slots c mine (less mine (key.Cell Plain c) full) (ground_of xs) landed.state landed.numbers) (read_is e loc here.matches reads is) landed.is in
-    let taken = cell_taken loc xs here.possible (whole_there loc mine under xs stores.whole parts) in
+    let taken = cell_is_taken loc xs here.possible (whole_there loc mine under xs stores.whole parts) in
     good_shown u m (need.Free loc) (label.Free loc) (config_of u rest env) xs (λ n. absurd (cc)) (record {
       share = full; old = taken.old; rest = taken.rest; gives = taken.gives; whole = line_self full;
       next = runs m (line_self m) taken.rest slots env landed.numbers landed.state

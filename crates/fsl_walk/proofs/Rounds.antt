@@ -9,8 +9,8 @@ use Rattle.fsl_meaning.proofs.Kept.{agrees_less, knows_less, needs_less, fits_ke
 use Rattle.fsl_meaning.proofs.Joining.{bounded_less}
 use Rattle.fsl_good.specs.Pieces.{Piece, IsPossible}
 use Rattle.fsl_held.specs.Heaps.{heap_of, truth_of, ground_of, Kept}
+use Rattle.fsl_held.proofs.Bounded.{heap_is_bounded}
 use Rattle.fsl_walk.specs.Stances.{Activation, config_of, IsGood, Stance, Matches, Runs}
-use Rattle.fsl_walk.proofs.Assumed.{heap_bounded}
 
 -- ---- what is kept
 
@@ -37,7 +37,7 @@ frame_fits {ys = ys} h kept fits = fits_kept (ground_of ys) kept.knows kept.agre
 -- ---- parts of what a thread has
 
 pub bounded : (xs : List Piece) (h : Heap) → IsPossible xs → ((k : Key) → h k ≤ heap_of xs k) → IsBounded (truth_of xs) h
-bounded xs h possible less = bounded_less h less (heap_bounded xs possible)
+bounded xs h possible less = bounded_less h less (heap_is_bounded xs possible)
 
 pub line_left : (a b c : ℕ) → a + b ≤ c → a ≤ c
 line_left a b c h = omega arith
