@@ -9,7 +9,7 @@ use Rattle.fsl_core.specs.declared.label.Ended.{Ended}
 use Rattle.fsl_core.specs.declared.need.Started.{Started as Start}
 use Rattle.fsl_core.specs.declared.scope.Scope.{Scope}
 use Rattle.fsl_core.specs.Programs.{Program}
-use Rattle.fsl_core.specs.Moves.{joining, forking, started_of}
+use Rattle.fsl_core.specs.Moves.{Frame, joining, forking, started_of}
 use Rattle.fsl_core.specs.Scopes.{passes}
 use Rattle.fsl_core.specs.WellFormed.{child_fits, is_well_formed}
 use Rattle.fsl_core.specs.logic.States.{State, followed, here}
@@ -33,7 +33,7 @@ use Rattle.fsl_walk.specs.Stances.{AllDerived, Activation, config_of, IsGood, Is
 use Rattle.fsl_walk.specs.Walks.{ParMoves}
 use Rattle.fsl_walk.proofs.Rounds.{kept_less, kept_then, frame_fits, bounded, plus, line_plus_left, line_plus_right}
 use Rattle.fsl_walk.proofs.Steps.{derived_left, each_tells, each_lands, each_followed, good_possible, good_halting}
-use Rattle.fsl_derived.proofs.Passing.{all_started, all_owed, each_starts}
+use Rattle.fsl_derived.proofs.Passing.{EachStarted, all_started, all_owed, each_starts}
 use Rattle.fsl_derived.proofs.Cutting.{CutAll, cut_all, values_of, paid_all}
 use Rattle.fsl_derived.proofs.Moving.{joining_good, forking_good}
 
