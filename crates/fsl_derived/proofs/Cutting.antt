@@ -1,25 +1,23 @@
 -- What several contracts require is taken out of a thread's pieces, one contract after the other; and what they ensure
 -- comes back in front of them.
-use Rattle.std.proofs.Common.{◌≡◌, ℕ, ◌+◌, ◌≤◌, List, [], ◌∷◌, ◌++◌, map, Option, Some, ℤ, refl, sym, ap, ◌∙◌, subst, arith}
+use Rattle.std.proofs.Common.{◌≡◌, ℕ, ◌+◌, ◌≤◌, List, [], ◌∷◌, ◌++◌, ℤ, sym, subst, arith}
 use Rattle.fsl_core.specs.declared.label.Ended.{Ended}
-use Rattle.fsl_core.specs.declared.mode.Rung.TheVariants.{Plain}
 use Rattle.fsl_core.specs.declared.need.Started.{Started as Start}
 use Rattle.fsl_core.specs.Programs.{Program}
-use Rattle.fsl_meaning.specs.Heaps.{Key, Heap, nothing, AllKnown}
-use Rattle.fsl_asserted.specs.Needs.{Need, asks}
+use Rattle.fsl_meaning.specs.Heaps.{Key, Heap}
+use Rattle.fsl_asserted.specs.Needs.{Need}
 use Rattle.fsl_kept.specs.Threads.{Started, all_needs, EachRequires, with_binders, EachEnsures}
 use Rattle.fsl_own.specs.Atoms.{Atom}
 use Rattle.fsl_good.specs.Pieces.{together, AtPlain, Piece, all_placed, Entails, IsPossible}
 use Rattle.fsl_good.specs.Good.{EachPays}
-use Rattle.fsl_held.specs.Heaps.{heap_of, truth_of, ground_of, Kept}
-use Rattle.fsl_held.specs.Asked.{Asked, Satisfies, Parted, logic_of}
-use Rattle.fsl_held.specs.Parts.{IsInFront}
+use Rattle.fsl_held.specs.Heaps.{heap_of, ground_of, Kept}
+use Rattle.fsl_held.specs.Asked.{Satisfies, logic_of}
 use Rattle.fsl_held.proofs.Fronts.{front_is_kept}
 use Rattle.fsl_held.proofs.Kept.{asked_is_kept}
 use Rattle.fsl_held.proofs.Satisfied.{need_is_parted, front_satisfies}
 use Rattle.fsl_walk.proofs.Rounds.{kept_self, kept_less, kept_then}
 use Rattle.fsl_derived.proofs.Lists.{entails_self, entails_then, entails_behind, first_apart}
-use Rattle.fsl_derived.proofs.Passing.{IsStarted, EachStarted, EachSatisfied, all_owed}
+use Rattle.fsl_derived.proofs.Passing.{EachStarted, EachSatisfied, all_owed}
 
 -- ---- taken out
 
@@ -68,7 +66,8 @@ pub cut_all : (p : Program) (ds : List Start) (ks : List Started) (ns : List Nee
 cut_all p [] [] [] h xs started possible asked room =
     record { atoms = []; rest = xs; gives = entails_self xs; satisfied = tt; kept = kept_self xs h; enough = λ k. line_none (h k) (heap_of xs k) (room k) }
 cut_all p (d ∷ ds) (s ∷ ks) (n ∷ ns) h xs started possible asked room =
-    let one = need_is_parted p.invs xs s.proc.pre s.numbers n possible started.0.pre_is_plain (record { is = asked.0; known = asked.1 }) (λ k. line_first (h k) (n.heap k) (all_needs ns k) (heap_of xs k) (room k)) in
+    let one = need_is_parted p.invs xs s.proc.pre s.numbers n possible started.0.pre_is_plain (record { is = asked.0; known = asked.1 })
+    (λ k. line_first (h k) (n.heap k) (all_needs ns k) (heap_of xs k) (room k)) in
     let left : (k : Key) → h k + all_needs ns k ≤ heap_of one.rest k = λ k. line_others (h k) (n.heap k) (all_needs ns k) (heap_of xs k) (heap_of one.rest k) (room k) (one.left k) in
     let asked_on = requires_kept xs one.rest ks ns one.kept (λ k. line_needed (h k) (all_needs ns k) (heap_of one.rest k) (left k)) asked.2 in
     let more = cut_all p ds ks ns h one.rest started.1 one.possible asked_on left in
@@ -131,8 +130,12 @@ paid_step s n m r ys yss xs ks rs pays possible more =
     let here = front_satisfies ys behind s.proc.post (n.env ++ r ∷ []) m pays possible in
     record {
       needs = m ∷ more.needs;
-      ensures = (here.0.is, here.0.known, ensures_kept behind all (heap_of behind) ks rs more.needs front.behind
-          (λ k. line_left (all_needs more.needs k) (heap_of xs k) (heap_of behind k) (more.room k)) more.ensures);
+      ensures = (
+        here.0.is,
+        here.0.known,
+        ensures_kept behind all (heap_of behind) ks rs more.needs front.behind
+            (λ k. line_left (all_needs more.needs k) (heap_of xs k) (heap_of behind k) (more.room k)) more.ensures,
+      );
       room = λ k. line_sum (m.heap k) (all_needs more.needs k) (heap_of xs k) (heap_of behind k) (heap_of all k) (here.1 k) (more.room k);
       kept = kept_then more.kept (kept_less (heap_of xs) (heap_of behind) (λ k. line_right (all_needs more.needs k) (heap_of xs k) (heap_of behind k) (more.room k)) front.behind);
     }

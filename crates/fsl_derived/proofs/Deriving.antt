@@ -1,11 +1,9 @@
 -- Verdicts: where a program is accepted, the paths of every procedure are derived.
-use Rattle.std.proofs.Common.{◌≡◌, ℕ, zero, suc, ◌+◌, nat_lt, Bool, true, false, List, [], ◌∷◌, Option, Some, None, slice_get, if◌then◌else◌, refl, sym, ap, subst}
-use Rattle.fsl_base.specs.declared.span.Span.{Span}
+use Rattle.std.proofs.Common.{◌≡◌, ℕ, zero, suc, ◌+◌, nat_lt, Bool, true, false, List, [], ◌∷◌, Some, None, slice_get, if◌then◌else◌, refl, subst}
 use Rattle.fsl_core.specs.declared.declaration.Proc.{Proc}
 use Rattle.fsl_core.specs.declared.verdict.Kind.TheVariants.{Paths}
 use Rattle.fsl_core.specs.declared.verdict.Outcome.{Outcome}
 use Rattle.fsl_core.specs.declared.verdict.Outcome.TheVariants.{Derived, Fails}
-use Rattle.fsl_core.specs.declared.verdict.Verdict.{Verdict}
 use Rattle.fsl_core.specs.declared.verdict.Verdict.TheVariants.{Accepted, Failed}
 use Rattle.fsl_core.specs.Verdicts.{End, derived, failed, outcome_from, verdict_from}
 use Rattle.fsl_core.specs.logic.Verdicts.{outcomes}
@@ -33,7 +31,8 @@ first_derived : (number n k : ℕ) (es : List End) (os : List Outcome) (o : Outc
 first_derived number n k es os (Derived paths) is e = record { all = outcome_derived number 0 paths es is; rest = e }
 first_derived number n k es os (Fails proc at kind) is e = absurd (let f : Failed proc at kind ≡ Accepted k = e in cc)
 
-pub accepted_derived : (ends : Proc → List End) (number n k : ℕ) (qs : List Proc) → verdict_from n (outcomes ends number qs) ≡ Accepted k → (i : ℕ) (q : Proc) → slice_get qs i ≡ Some q → AllDerived (ends q)
+pub accepted_derived : (ends : Proc → List End) (number n k : ℕ) (qs : List Proc) → verdict_from n (outcomes ends number qs) ≡ Accepted k
+    → (i : ℕ) (q : Proc) → slice_get qs i ≡ Some q → AllDerived (ends q)
 accepted_derived ends number n k [] e i q is = absurd (let f : None ≡ Some q = is in cc)
 accepted_derived ends number n k (x ∷ qs) e zero q is =
     subst (λ (z : Proc). AllDerived (ends z)) (some_is is) (first_derived number n k (ends x) (outcomes ends (number + 1) qs) (outcome_from number 0 (ends x)) refl e).all

@@ -1,6 +1,5 @@
 -- The end of a thread: the outermost procedure gives back what its contract ensures.
-use Rattle.std.proofs.Common.{◌≡◌, ℕ, zero, suc, ◌+◌, ◌≤◌, ◌==◌, Bool, true, false, List, [], ◌∷◌, ◌++◌, length, map, None, ℤ, pos, slice_get, slice_set, refl, sym, ap, ◌∙◌, subst, arith}
-use Rattle.std.specs.List.{list_any}
+use Rattle.std.proofs.Common.{◌≡◌, ℕ, zero, suc, ◌+◌, ◌≤◌, true, false, List, [], ◌∷◌, ◌++◌, length, map, None, ℤ, pos, sym, ap, ◌∙◌, subst, arith}
 use Rattle.fsl_base.specs.declared.span.Span.{Span}
 use Rattle.fsl_core.specs.declared.assertion.Asrt.{Asrt}
 use Rattle.fsl_core.specs.declared.declaration.Proc.{Proc}
@@ -15,14 +14,14 @@ use Rattle.fsl_core.specs.logic.Paths.{Reading, each, path_ends, closing, all_se
 use Rattle.fsl_lin.specs.Combination.{Combination}
 use Rattle.fsl_lin.specs.Numbers.{Numbers}
 use Rattle.fsl_meaning.specs.Means.{Means}
-use Rattle.fsl_meaning.specs.Heaps.{Key, Heap, Claim, AllKnown, nothing}
+use Rattle.fsl_meaning.specs.Heaps.{Key, Heap, Claim, AllKnown}
 use Rattle.fsl_meaning.proofs.Terms.{means_constant}
 use Rattle.fsl_asserted.specs.Carried.{IsPlain}
 use Rattle.fsl_kept.proofs.Calls.{finish_fits}
 use Rattle.fsl_own.specs.Atoms.{Atom}
 use Rattle.fsl_good.specs.Pieces.{AtPlain, Piece, all_placed, Entails, IsPossible}
 use Rattle.fsl_good.specs.Good.{Ends}
-use Rattle.fsl_held.specs.Heaps.{heap_of, truth_of, ground_of, Kept}
+use Rattle.fsl_held.specs.Heaps.{heap_of, truth_of, ground_of}
 use Rattle.fsl_held.specs.Asked.{Satisfies, Debt, owes_nothing, owes, OwedFor, logic_of}
 use Rattle.fsl_walk.specs.Stances.{AllDerived, Activation, Stance, Runs, Returns}
 use Rattle.fsl_walk.specs.Walks.{IsClosed}
@@ -64,7 +63,8 @@ dropped : (xs : List Piece) (ys : List Atom) (rest : List Piece) → Entails xs 
 dropped xs ys rest e = entails_then e (entails_front (all_placed AtPlain ys) rest)
 
 ends : (p : Program) (o : Debt) (q : Proc) (env : List ℤ) → proc_is_scoped p.procs q ≡ true → length env ≡ q.slots → OwedFor p o q env
-    → (under : Heap) (xs : List Piece) (slots : List ℤ) (v : Numbers) (s : State) (t : Combination) (x : ℤ) (at : Span) → IsPossible xs → Stance xs under slots v s → AtStart q env slots → Means s.next v t x
+    → (under : Heap) (xs : List Piece) (slots : List ℤ) (v : Numbers) (s : State) (t : Combination) (x : ℤ) (at : Span) → IsPossible xs → Stance xs under slots v s
+    → AtStart q env slots → Means s.next v t x
     → AllDerived (each at (finish (asrt_of q.post) t s) (λ y. path_ends at)) → Ends (logic_of p) o x xs
 ends p owes_nothing q env scoped long owed under xs slots v s t x at possible stance same means derived = record { atoms = []; gives = entails_none xs; pays = tt }
 ends p (owes post e) q env scoped long owed under xs slots v s t x at possible stance same means derived =
@@ -78,7 +78,8 @@ ends p (owes post e) q env scoped long owed under xs slots v s t x at possible s
     record {
       atoms = parted.atoms;
       gives = dropped xs parted.atoms parted.rest parted.gives;
-      pays = (seen.0, subst (λ (a : Asrt). Satisfies a (e ++ x ∷ []) seen.0 parted.atoms) (sym owed.0) (subst (λ (zs : List ℤ). Satisfies q.post (zs ++ x ∷ []) seen.0 parted.atoms) (sym owed.1) parted.satisfies));
+      pays = (seen.0, subst (λ (a : Asrt). Satisfies a (e ++ x ∷ []) seen.0 parted.atoms) (sym owed.0)
+          (subst (λ (zs : List ℤ). Satisfies q.post (zs ++ x ∷ []) seen.0 parted.atoms) (sym owed.1) parted.satisfies));
     }
 
 pub end_returns : (p : Program) (o : Debt) (q : Proc) (env : List ℤ) (m : ℕ) (base : List Piece) (under : Heap) → proc_is_scoped p.procs q ≡ true → length env ≡ q.slots → OwedFor p o q env

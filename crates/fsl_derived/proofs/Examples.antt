@@ -23,7 +23,8 @@ use Rattle.fsl_core.specs.declared.scope.Scope.{Scope}
 use Rattle.fsl_core.specs.declared.scope.Sight.TheVariants as sight
 use Rattle.fsl_core.specs.declared.verdict.Verdict.TheVariants.{Accepted}
 use Rattle.fsl_core.specs.Programs.{Program}
-use Rattle.fsl_core.specs.Scopes.{Scoped, still, all_fit, in_turn, is_number, sight_at, with_sight, in_body, nothing_declared, reads, reads_step, part_reads_step, asrt_scoped, stmt_step, act_scoped, stmt_scoped, proc_is_scoped, has_room, in_ensures, block_scoped}
+use Rattle.fsl_core.specs.Scopes.{Scoped, still, all_fit, is_number, sight_at, with_sight, in_body, nothing_declared, has_room, in_ensures, proc_is_scoped}
+use Rattle.fsl_core.specs.Scopes.{reads, reads_step, part_reads_step, asrt_scoped, stmt_step, act_scoped, stmt_scoped, block_scoped}
 use Rattle.fsl_core.specs.Scopes as scopes
 use Rattle.fsl_core.specs.Straight.{is_emp, emp_step}
 use Rattle.fsl_core.specs.WellFormed.{Test, asrt_step, asrt_fits, act_step, act_fits, stmt_fits, proc_fits, proc_is_well, is_startable, main_among, is_well_formed, child_fits}
@@ -63,7 +64,8 @@ empty_is = fold-roll-Asrt Bool emp_step Asrt-F.Emp
 
 -- ---- procedures without contracts
 
-empty_proc_fits : (p : Program) (name : List ℕ) (slots : ℕ) (body : List Stmt) (last : Span) → list_all (stmt_fits p) body ≡ true → proc_fits p (proc name 0 slots [] nothing nothing body last) ≡ true
+empty_proc_fits : (p : Program) (name : List ℕ) (slots : ℕ) (body : List Stmt) (last : Span) → list_all (stmt_fits p) body ≡ true
+    → proc_fits p (proc name 0 slots [] nothing nothing body last) ≡ true
 empty_proc_fits p name slots body last fits =
     and_from (asrt_fits p.invs nothing true) (asrt_fits p.invs nothing true && list_all (stmt_fits p) body) (empty_fits p.invs true)
     (and_from (asrt_fits p.invs nothing true) (list_all (stmt_fits p) body) (empty_fits p.invs true) fits)
@@ -72,8 +74,9 @@ empty_proc_scoped : (procs : List Proc) (name : List ℕ) (slots : ℕ) (body : 
     → (block_scoped procs body).fits (in_body (nothing_declared slots)) ≡ true → proc_is_scoped procs (proc name 0 slots [] nothing nothing body last) ≡ true
 empty_proc_scoped procs name slots body last room fits =
     let q = proc name 0 slots [] nothing nothing body last in
-    subst (λ (e : Scoped). (has_room q && (e.fits (nothing_declared slots) && (e.fits (in_ensures (e.behind (nothing_declared slots))) && (block_scoped procs body).fits (in_body (e.behind (nothing_declared slots)))))) ≡ true)
-    (sym empty_scoped) (and_from (has_room q) ((block_scoped procs body).fits (in_body (nothing_declared slots))) room fits)
+    let scope = nothing_declared slots in
+    subst (λ (e : Scoped). (has_room q && (e.fits scope && (e.fits (in_ensures (e.behind scope)) && (block_scoped procs body).fits (in_body (e.behind scope))))) ≡ true)
+    (sym empty_scoped) (and_from (has_room q) ((block_scoped procs body).fits (in_body scope)) room fits)
 
 three : {X : Type 0} (f : X → Bool) (a b c : X) → f a ≡ true → f b ≡ true → f c ≡ true → list_all f (a ∷ b ∷ c ∷ []) ≡ true
 three f a b c x y z = and_from (f a) (f b && (f c && true)) x (and_from (f b) (f c && true) y (and_from (f c) true z refl))
@@ -109,13 +112,15 @@ cell_scoped procs =
     (and_from (reads declared (var 0) && reads declared (num 7)) (reads declared (var 0) && true)
     (and_from (reads declared (var 0)) (reads declared (num 7)) cell_reads (reads_num declared 7)) (and_from (reads declared (var 0)) true cell_reads refl))
   where
-    levels : map (stmt_scoped procs) cell_body ≡ scopes.act_step procs (Act-F.AllocNa 0) ∷ scopes.act_step procs (Act-F.Store Na (var 0) (num 7)) ∷ scopes.act_step procs (Act-F.Load 1 Na (var 0)) ∷ []
+    levels : map (stmt_scoped procs) cell_body
+        ≡ scopes.act_step procs (Act-F.AllocNa 0) ∷ scopes.act_step procs (Act-F.Store Na (var 0) (num 7)) ∷ scopes.act_step procs (Act-F.Load 1 Na (var 0)) ∷ []
     levels = λ j. scoped_at procs 14 31 (Act-F.AllocNa 0) j ∷ scoped_at procs 32 47 (Act-F.Store Na (var 0) (num 7)) j ∷ scoped_at procs 48 67 (Act-F.Load 1 Na (var 0)) j ∷ []
 
 cell_is_well : (p : Program) (name : List ℕ) → proc_is_well p (proc name 0 2 [] nothing nothing cell_body (span 68 69)) ≡ true
 cell_is_well p name =
     let q = proc name 0 2 [] nothing nothing cell_body (span 68 69) in
-    and_from (proc_fits p q) (proc_is_scoped p.procs q) (empty_proc_fits p name 2 cell_body (span 68 69) (cell_fits p)) (empty_proc_scoped p.procs name 2 cell_body (span 68 69) refl (cell_scoped p.procs))
+    and_from (proc_fits p q) (proc_is_scoped p.procs q) (empty_proc_fits p name 2 cell_body (span 68 69) (cell_fits p))
+    (empty_proc_scoped p.procs name 2 cell_body (span 68 69) refl (cell_scoped p.procs))
 
 one_cell_well : is_well_formed one_cell ≡ true
 one_cell_well =

@@ -1,5 +1,5 @@
 -- Pieces that are taken out of others.
-use Rattle.std.proofs.Common.{◌≡◌, ℕ, ◌+◌, ◌≤◌, ℤ, refl, List, [], ◌∷◌, ◌++◌, sym, ap, ◌∙◌, subst, arith}
+use Rattle.std.proofs.Common.{◌≡◌, ℕ, ◌+◌, ◌≤◌, List, [], ◌∷◌, ◌++◌, ap, ◌∙◌, arith}
 use Rattle.fsl_own.specs.Atoms.{Atom}
 use Rattle.fsl_good.specs.Pieces.{together, AtPlain, Piece, all_placed, demand_at, Entails}
 use Rattle.fsl_good.proofs.Pieces.{demand_more, right_first, right_last, right_more}
@@ -30,7 +30,8 @@ entails_then {xs = xs} {ys = ys} {zs = zs} e f = record {
 -- what stands behind others
 pub entails_behind : (zs : List Piece) {xs ys : List Piece} → Entails xs ys → Entails (zs ++ xs) (zs ++ ys)
 entails_behind zs {xs = xs} {ys = ys} e = record {
-  enough = λ a r. line_behind (demand_at a (zs ++ ys) r) (demand_at a (zs ++ xs) r) (demand_at a zs r) (demand_at a ys r) (demand_at a xs r) (demand_more a zs ys r) (demand_more a zs xs r) (e.enough a r);
+  enough = λ a r. line_behind (demand_at a (zs ++ ys) r) (demand_at a (zs ++ xs) r) (demand_at a zs r) (demand_at a ys r) (demand_at a xs r)
+      (demand_more a zs ys r) (demand_more a zs xs r) (e.enough a r);
   right = λ g done k t p. right_more g done k t zs ys (right_first g done k t zs xs p) (e.right g done k t (right_last g done k t zs xs p));
 }
 

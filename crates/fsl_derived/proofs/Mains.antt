@@ -1,5 +1,5 @@
 -- `main` starts with nothing.
-use Rattle.std.proofs.Common.{◌≡◌, ℕ, ◌≤◌, ◌==◌, Bool, true, false, ◌&&◌, List, [], ◌∷◌, length, Option, Some, None, ℤ, slice_get, refl, sym, ap, ◌∙◌, subst, arith}
+use Rattle.std.proofs.Common.{◌≡◌, ℕ, ◌≤◌, ◌==◌, Bool, true, false, ◌&&◌, List, [], length, Option, Some, None, ℤ, slice_get, refl, sym, ap, ◌∙◌, subst, arith}
 use Rattle.std.specs.List.{list_all}
 use Rattle.std.proofs.lemmas.Bool.{and_parts, eqb-true}
 use Rattle.fsl_core.specs.declared.assertion.Asrt.{Asrt}
@@ -10,7 +10,7 @@ use Rattle.fsl_core.specs.declared.declaration.Proc.{Proc}
 use Rattle.fsl_core.specs.declared.mode.Rung.{Rung}
 use Rattle.fsl_core.specs.declared.mode.Rung.TheVariants.{Plain}
 use Rattle.fsl_core.specs.declared.need.Started.{Started as Start}
-use Rattle.fsl_core.specs.Programs.{Program, main_of}
+use Rattle.fsl_core.specs.Programs.{Program}
 use Rattle.fsl_core.specs.Straight.{emp_step, is_emp}
 use Rattle.fsl_core.specs.WellFormed.{nth_of, is_startable, main_among, inv_is_well, proc_is_well, is_well_formed}
 use Rattle.fsl_meaning.specs.Heaps.{Truth, nothing}
@@ -24,7 +24,8 @@ use Rattle.fsl_held.specs.Asked.{owes_nothing, StartsWith, logic_of}
 false_is : {X : Type 0} → false ≡ true → X
 false_is e = absurd (cc)
 
-layer_empty : (t : Truth) (rung : Rung) (xs : List ℤ) (l : Asrt-F Asrt) → emp_step (map-Asrt Asrt Bool is_emp l) ≡ true → asks_step t (map-Asrt Asrt Asks (asks t) l) rung xs ≡ Some (need nothing [] xs)
+layer_empty : (t : Truth) (rung : Rung) (xs : List ℤ) (l : Asrt-F Asrt) → emp_step (map-Asrt Asrt Bool is_emp l) ≡ true
+    → asks_step t (map-Asrt Asrt Asks (asks t) l) rung xs ≡ Some (need nothing [] xs)
 layer_empty t rung xs Asrt-F.Emp h = refl
 layer_empty t rung xs l h = false_is h
 

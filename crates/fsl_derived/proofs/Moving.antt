@@ -1,5 +1,5 @@
 -- Good moves of a thread that starts others, that joins them, and that ends.
-use Rattle.std.proofs.Common.{◌≡◌, ℕ, zero, suc, ◌+◌, ◌≤◌, List, [], ◌∷◌, ◌++◌, length, Option, Some, None, ℤ, refl, sym, ap, subst, arith}
+use Rattle.std.proofs.Common.{◌≡◌, ℕ, zero, suc, ◌≤◌, List, [], ◌++◌, length, Some, ℤ, ap, subst, arith}
 use Rattle.fsl_core.specs.declared.label.Ended.{Ended}
 use Rattle.fsl_core.specs.declared.label.Label.{Label}
 use Rattle.fsl_core.specs.declared.label.Label.TheVariants as label
@@ -9,10 +9,10 @@ use Rattle.fsl_core.specs.declared.need.Reply.{Reply}
 use Rattle.fsl_core.specs.declared.need.Reply.TheVariants as reply
 use Rattle.fsl_core.specs.declared.need.Started.{Started as Start}
 use Rattle.fsl_core.specs.Programs.{Program}
-use Rattle.fsl_core.specs.Moves.{Config, Frame, running, joining, returned, halted, failed, Moved, unlabelled, showing, numbers_from, joined_from, results_reply, threads_reply, halting, forking, ending, moved, need_of}
+use Rattle.fsl_core.specs.Moves.{Config, Frame, running, joining, returned, Moved, showing, numbers_from, joined_from, results_reply, threads_reply, forking, ending}
 use Rattle.fsl_own.specs.Atoms.{Atom}
-use Rattle.fsl_good.specs.Pieces.{together, AtPlain, Piece, all_placed, IsPossible}
-use Rattle.fsl_good.specs.Good.{Logic, Shifts, EachPays, Spawns, Ends, Allows, Good}
+use Rattle.fsl_good.specs.Pieces.{together, AtPlain, Piece, all_placed}
+use Rattle.fsl_good.specs.Good.{Logic, EachPays, Spawns, Ends, Allows, Good}
 use Rattle.fsl_held.specs.Asked.{logic_of}
 use Rattle.fsl_walk.specs.Stances.{Activation, IsGoodMove}
 use Rattle.fsl_walk.proofs.Steps.{quiet, shows_so}
@@ -59,7 +59,9 @@ forking_shows : (u : Activation) (m : ℕ) (ds : List Start) (after : ℕ → Co
     → Allows (logic_of u.program) u.debt (need.Fork ds) shown (λ waits ys. Good (logic_of u.program) u.program u.debt m next waits ys) [] xs
 forking_shows u m ds after xs h (reply.Threads first) shown next e =
     shows_so u m (need.Fork ds) (label.Fork (numbers_from first (length ds))) shown (after first) next xs e
-    (λ calls same. let is : ds ≡ calls = cc in subst (λ (cs : List Start). Spawns (logic_of u.program) cs (λ waits ys. Good (logic_of u.program) u.program u.debt m (after first) waits ys) xs) is (h first))
+    (λ calls same.
+    let is : ds ≡ calls = cc in
+    subst (λ (cs : List Start). Spawns (logic_of u.program) cs (λ waits ys. Good (logic_of u.program) u.program u.debt m (after first) waits ys) xs) is (h first))
 forking_shows u m ds after xs h reply.Nothing shown next e = absurd (quiet e)
 forking_shows u m ds after xs h (reply.Place x) shown next e = absurd (quiet e)
 forking_shows u m ds after xs h (reply.Read x) shown next e = absurd (quiet e)

@@ -65,7 +65,8 @@ mapped_length : {X Y : Type 0} (f : X → Y) (xs : List X) → length (map f xs)
 mapped_length f [] = refl
 mapped_length f (x ∷ xs) = ap suc (mapped_length f xs)
 
-one_started : (p : Program) (scope : Scope) (env slots : List ℤ) (c : Called) (args : List ℤ) (rest : List Start) (others : List Started) → is_well_formed p ≡ true → scope.in_ensures ≡ false → Sees scope env slots
+one_started : (p : Program) (scope : Scope) (env slots : List ℤ) (c : Called) (args : List ℤ) (rest : List Start) (others : List Started) → is_well_formed p ≡ true
+    → scope.in_ensures ≡ false → Sees scope env slots
     → (o : Option Proc) → slice_get p.procs c.proc ≡ o → passes_to scope c.args o ≡ true → (proc_takes c.args o && proc_is_plain p.invs o) ≡ true
     → arguments_of o c.args env ≡ Some args → EachStarted p rest others
     → EachStarted p (record { proc = c.proc; args = args } ∷ rest) (started_by o (exact_all c.args slots) others)

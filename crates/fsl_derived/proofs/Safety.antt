@@ -1,13 +1,8 @@
 -- A derived program is safe, and so is an accepted one.
-use Rattle.std.proofs.Common.{◌≡◌, ℕ, true}
-use Rattle.fsl_core.specs.declared.verdict.Verdict.TheVariants.{Accepted}
 use Rattle.fsl_core.specs.Programs.{Program}
-use Rattle.fsl_core.specs.WellFormed.{is_well_formed}
 use Rattle.fsl_core.specs.logic.Paths.{ends_of}
-use Rattle.fsl_core.specs.logic.Verdicts.{verdict_of}
 use Rattle.fsl_held.specs.Asked.{logic_of}
 use Rattle.fsl_safe.proofs.Safety.{good_is_safe}
-use Rattle.fsl_walk.specs.Covered.{covers_program}
 use Rattle.fsl_walk.specs.Walks.{IsDerived}
 use Rattle.fsl_derived.specs.Laws.{IsSafeAlways, CellsAreSafe}
 use Rattle.fsl_derived.proofs.Starting.{thread_good}

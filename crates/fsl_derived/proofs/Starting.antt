@@ -1,36 +1,30 @@
 -- The start of a thread: it has what its contract requires, and runs the body of its procedure.
-use Rattle.std.proofs.Common.{◌≡◌, ℕ, zero, suc, ◌+◌, ◌-◌, ◌≤◌, nat_le, Bool, true, false, ◌&&◌, List, [], ◌∷◌, ◌++◌, length, map, replicate, Option, Some, None, ℤ, pos, slice_get, refl, sym, ap, ◌∙◌, subst, arith}
+use Rattle.std.proofs.Common.{◌≡◌, ℕ, ◌+◌, ◌-◌, ◌≤◌, true, ◌&&◌, List, [], length, map, replicate, Option, None, ℤ, pos, refl, sym, ap, ◌∙◌, subst, arith}
 use Rattle.std.specs.List.{list_all}
-use Rattle.std.proofs.lemmas.Bool.{and_parts, leb-true}
+use Rattle.std.proofs.lemmas.Bool.{and_parts}
 use Rattle.std.proofs.lemmas.List.{append-nil, length-append, length-replicate}
 use Rattle.fsl_core.specs.declared.declaration.Proc.{Proc}
 use Rattle.fsl_core.specs.declared.need.Started.{Started as Start}
 use Rattle.fsl_core.specs.declared.mode.Rung.TheVariants.{Plain}
-use Rattle.fsl_core.specs.declared.scope.Scope.{Scope}
 use Rattle.fsl_core.specs.Programs.{Program}
 use Rattle.fsl_core.specs.Moves.{Config, started_at, entered, start_of}
-use Rattle.fsl_core.specs.Scopes.{parameters_of, behind_requires, in_body, in_ensures, has_room, asrt_scoped, block_scoped, proc_is_scoped}
+use Rattle.fsl_core.specs.Scopes.{parameters_of, behind_requires, in_body}
 use Rattle.fsl_core.specs.WellFormed.{asrt_fits, stmt_fits, proc_fits}
-use Rattle.fsl_core.specs.logic.States.{State}
 use Rattle.fsl_core.specs.logic.Assertions.{asrt_of}
-use Rattle.fsl_core.specs.logic.Locations.{contract_of}
-use Rattle.fsl_core.specs.logic.Calls.{enter}
-use Rattle.fsl_core.specs.logic.Paths.{each, block, stmt_of, nowhere, closing, start}
+use Rattle.fsl_core.specs.logic.Paths.{block, stmt_of, nowhere, closing, start}
 use Rattle.fsl_core.specs.declared.act.Stmt.{Stmt}
-use Rattle.fsl_lin.specs.Numbers.{Numbers}
 use Rattle.fsl_meaning.specs.Means.{padded_numbers}
-use Rattle.fsl_meaning.specs.Heaps.{Key, Heap, nothing}
+use Rattle.fsl_meaning.specs.Heaps.{nothing}
 use Rattle.fsl_meaning.specs.States.{All, Fits}
 use Rattle.fsl_meaning.proofs.Terms.{all_none}
-use Rattle.fsl_asserted.specs.Needs.{Need}
 use Rattle.fsl_kept.proofs.Calls.{enter_fits}
 use Rattle.fsl_own.specs.Atoms.{Atom}
 use Rattle.fsl_good.specs.Pieces.{AtPlain, Piece, all_placed, IsPossible}
 use Rattle.fsl_good.specs.Good.{Good}
 use Rattle.fsl_held.specs.Heaps.{heap_of, truth_of, ground_of}
 use Rattle.fsl_held.specs.Asked.{Debt, StartsWith, logic_of}
-use Rattle.fsl_walk.specs.Covered.{covers, covers_proc}
-use Rattle.fsl_walk.specs.Stances.{Activation, config_of, reading, IsGood, Stance, Matches}
+use Rattle.fsl_walk.specs.Covered.{covers_proc}
+use Rattle.fsl_walk.specs.Stances.{Activation, config_of, reading, IsGood}
 use Rattle.fsl_walk.specs.Walks.{IsDerived, Walks}
 use Rattle.fsl_held.proofs.Bounded.{heap_is_bounded}
 use Rattle.fsl_scoped.proofs.Assertions.{binders_free}
@@ -50,7 +44,8 @@ line_padded k l r n e f i = omega arith
 
 padded_long : (k : ℕ) (xs : List ℤ) → length xs ≤ k → length (padded_numbers k xs) ≡ k
 padded_long k xs room =
-    line_padded k (length xs) (length (replicate (k - length xs) (pos 0))) (length (padded_numbers k xs)) (length-append xs (replicate (k - length xs) (pos 0))) (length-replicate (k - length xs) (pos 0)) room
+    let zeros = replicate (k - length xs) (pos 0) in
+    line_padded k (length xs) (length zeros) (length (padded_numbers k xs)) (length-append xs zeros) (length-replicate (k - length xs) (pos 0)) room
 
 body_fits : (p : Program) (q : Proc) → proc_fits p q ≡ true → list_all (stmt_fits p) q.body ≡ true
 body_fits p q h =
