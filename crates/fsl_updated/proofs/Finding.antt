@@ -1,5 +1,5 @@
 -- The leaves of a location, and that they are known before anything is read.
-use Rattle.std.proofs.Common.{◌≡◌, ◌⊎◌, inl, inr, ℕ, true, List, [], ◌∷◌, ◌++◌, ℤ, refl, sym, subst}
+use Rattle.std.proofs.Common.{◌≡◌, ◌⊎◌, inl, inr, ℕ, true, List, [], ◌++◌, ℤ, refl, sym, subst}
 use Rattle.fsl_core.specs.declared.chunk.Chunk.{Chunk}
 use Rattle.fsl_core.specs.declared.mode.Rung.TheVariants.{Plain}
 use Rattle.fsl_core.specs.declared.verdict.Kind.{Kind}

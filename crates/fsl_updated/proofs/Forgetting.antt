@@ -9,7 +9,7 @@ use Rattle.fsl_core.specs.logic.States.{State}
 use Rattle.fsl_core.specs.logic.Chunks.{same_rung}
 use Rattle.fsl_core.specs.logic.Fences.{is_at, take_all}
 use Rattle.fsl_core.specs.logic.Joining.{at_rung}
-use Rattle.fsl_core.specs.logic.Messages.{Held, untouched}
+use Rattle.fsl_core.specs.logic.Messages.{untouched}
 use Rattle.fsl_lin.specs.Numbers.{Numbers}
 use Rattle.fsl_meaning.specs.Heaps.{Heap, nothing, Claim as claim, Ground}
 use Rattle.fsl_meaning.specs.States.{Stands, EachStands, Owns, All, Fits}

@@ -1,5 +1,5 @@
 -- Token steps, one after the other.
-use Rattle.std.proofs.Common.{◌≡◌, ℕ, ◌+◌, ◌-◌, ◌≤◌, Bool, true, false, List, [], ◌∷◌, map, ℤ, pos, ◌+ℤ◌, ◌-ℤ◌, ◌≤ℤ◌, if◌then◌else◌, refl, ap, sym, subst, ◌∙◌, arith}
+use Rattle.std.proofs.Common.{◌≡◌, ℕ, ◌-◌, ◌≤◌, Bool, true, false, List, [], ◌∷◌, map, ℤ, pos, ◌+ℤ◌, ◌-ℤ◌, ◌≤ℤ◌, if◌then◌else◌, refl, sym, subst, ◌∙◌, arith}
 use Rattle.std.specs.Ordering.{int_eq}
 use Rattle.std.proofs.lemmas.Int.{ints}
 use Rattle.fsl_core.specs.declared.act.Step.{Step}
@@ -67,13 +67,13 @@ made_of : (g : Ground) {slots : List ℤ} {w : Numbers} {s : State} {h : Heap} (
 made_of g {slots = slots} {w = w} {s = s} {h = h} true number z bounds c = record {
   may = record { is = is_amount z c.amount c.is; there = c.there; enough = λ e. absurd (let d : true ≡ false = e in cc) };
   bounded = subst (λ (x : ℤ). IsBounded (allowing number (g.truth.bank number +ℤ x) g.truth) (with_more h (key.Tokens number) (amount_of x))) (sym c.is)
-    (minted_bounds g.truth h number c.amount bounds);
+      (minted_bounds g.truth h number c.amount bounds);
   fits = subst (λ (x : ℤ). Fits slots (All (grounded g (allowing number (g.truth.bank number +ℤ x) g.truth)) (with_more h (key.Tokens number) (amount_of x))) w s) (sym c.is) c.fits;
 }
 made_of g {slots = slots} {w = w} {s = s} {h = h} false number z bounds c = record {
   may = record { is = is_amount z c.amount c.is; there = c.there; enough = λ e. subst (λ (x : ℤ). amount_of x ≤ h (key.Tokens number)) (sym c.is) c.enough };
   bounded = subst (λ (x : ℤ). IsBounded (allowing number (g.truth.bank number -ℤ x) g.truth) (less h (key.Tokens number) (amount_of x))) (sym c.is)
-    (burned_bounds g.truth h number c.amount c.enough bounds);
+      (burned_bounds g.truth h number c.amount c.enough bounds);
   fits = subst (λ (x : ℤ). Fits slots (All (grounded g (allowing number (g.truth.bank number -ℤ x) g.truth)) (less h (key.Tokens number) (amount_of x))) w s) (sym c.is) c.fits;
 }
 

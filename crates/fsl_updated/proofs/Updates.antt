@@ -1,5 +1,5 @@
 -- Exchange, fetch-and-add and compare-exchange.
-use Rattle.std.proofs.Common.{◌≡◌, ◌⊎◌, inl, ℕ, ◌+◌, ◌<◌, ◌^◌, ◌-◌, Bool, true, false, nat_lt, List, map, Option, Some, None, ℤ, pos, negsuc, ◌+ℤ◌, ◌≤ℤ◌, if◌then◌else◌, refl, sym, subst, arith}
+use Rattle.std.proofs.Common.{◌≡◌, ◌⊎◌, inl, ℕ, ◌<◌, ◌^◌, ◌-◌, Bool, true, false, nat_lt, List, map, Some, None, ℤ, pos, negsuc, ◌+ℤ◌, ◌≤ℤ◌, if◌then◌else◌, refl, sym, subst, arith}
 use Rattle.std.specs.Ordering.{int_eq}
 use Rattle.std.specs.Prelude.{slice_set}
 use Rattle.std.proofs.lemmas.Int.{ints}
@@ -22,7 +22,7 @@ use Rattle.fsl_meaning.specs.Heaps.{Heap, Ground}
 use Rattle.fsl_meaning.specs.States.{All, Fits}
 use Rattle.fsl_meaning.specs.Branches.{Lands}
 use Rattle.fsl_meaning.proofs.Terms.{grows_then, means_more, means_as, means_plus, means_constant}
-use Rattle.fsl_meaning.proofs.Calculus.{lands_then, lands_give, lands_end, tells_then}
+use Rattle.fsl_meaning.proofs.Calculus.{lands_then, lands_end, tells_then}
 use Rattle.fsl_meaning.proofs.Facts.{lands_at_most, lands_symbol}
 use Rattle.fsl_meaning.proofs.Deciding.{lands_done, picked_equal, lands_sides}
 use Rattle.fsl_meaning.proofs.Owned.{all_lasts}

@@ -1,6 +1,6 @@
 -- What is known of a message is known while it is read. Before, what was known of another one is forgotten; behind, it
 -- is known where the read puts what it gains.
-use Rattle.std.specs.Prelude.{Bool, true, false, not, ◌&&◌, ◌||◌, ℤ}
+use Rattle.std.specs.Prelude.{Bool, false, not, ◌&&◌, ◌||◌}
 use Rattle.fsl_core.specs.declared.mode.Rung.{Rung}
 use Rattle.fsl_core.specs.declared.mode.Rung.TheVariants.{Msg}
 use Rattle.fsl_core.specs.logic.Chunks.{same_rung}
