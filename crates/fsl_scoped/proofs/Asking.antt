@@ -148,7 +148,8 @@ points_seen t at share p scope r xs ys n fit alike e =
     let m = matched_seen p (t.value (exact at xs)) scope xs ys j.value rest.1 alike j.is in
     answer_as (Some (need (some_of (key.Cell r (exact at xs)) i.value) [] m.env)) (points_asked t at share p r ys) (bound p scope) n
     (ap (λ (z : ℤ). Some (need (some_of (key.Cell r z) i.value) [] m.env)) place
-    ∙ sym (value_is (positive (exact share ys)) i.value (λ k. with_value (matched p (t.value (exact at ys)) ys) (λ zs. Some (need (some_of (key.Cell r (exact at ys)) k) [] zs))) (ap positive (sym part) ∙ i.is)
+    ∙ sym (value_is (positive (exact share ys)) i.value
+    (λ k. with_value (matched p (t.value (exact at ys)) ys) (λ zs. Some (need (some_of (key.Cell r (exact at ys)) k) [] zs))) (ap positive (sym part) ∙ i.is)
     ∙ value_is (matched p (t.value (exact at ys)) ys) m.env (λ zs. Some (need (some_of (key.Cell r (exact at ys)) i.value) [] zs)) (ap (λ (z : ℤ). matched p (t.value z) ys) (sym place) ∙ m.is)))
     (answered (bound p scope) j.value m.env n (some_of (key.Cell r (exact at xs)) i.value) [] m.alike j.then_is)
 

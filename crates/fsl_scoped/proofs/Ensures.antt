@@ -5,12 +5,11 @@ use Rattle.fsl_core.specs.declared.mode.Rung.TheVariants.{Plain}
 use Rattle.fsl_core.specs.declared.scope.Scope.{Scope}
 use Rattle.fsl_core.specs.declared.scope.Sight.{Sight}
 use Rattle.fsl_core.specs.declared.scope.Sight.TheVariants as sight
-use Rattle.fsl_core.specs.Scopes.{is_free, sight_at, in_ensures, behind_requires, asrt_scoped, parameters_of}
+use Rattle.fsl_core.specs.Scopes.{is_free, sight_at, in_ensures, behind_requires, asrt_scoped}
 use Rattle.fsl_core.specs.logic.Assertions.{asrt_of}
 use Rattle.fsl_scoped.specs.Assertions.{is_shared, Shares}
 use Rattle.fsl_scoped.specs.Procedures.{EnsuresAreSeen, EnsuresNeedNoResult, EnsuresMindNoResult}
 use Rattle.fsl_scoped.proofs.Lists.{room_long, last_behind, append_alike, append_front}
-use Rattle.fsl_scoped.proofs.Binding.{asrt_binds}
 use Rattle.fsl_scoped.proofs.Alike.{Alike}
 use Rattle.fsl_scoped.proofs.Asking.{asrt_seen}
 use Rattle.fsl_scoped.proofs.Bodies.{contracts_outside}

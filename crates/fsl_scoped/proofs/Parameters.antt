@@ -29,7 +29,8 @@ bank_cases true params bank slot scope P test same other = set_cases scope.sight
     (λ e. same (let l : bank < params = test refl in omega (arith, e, l))) (λ w. other)
 bank_cases false params bank slot scope P test same other = other
 
-banks_cases : (params : ℕ) (banks : List ℕ) (scope : Scope) (slot : ℕ) (P : Sight → Type 0) → (slot < params → P sight.Bank) → P (sight_at scope slot) → P (sight_at (with_banks params banks scope) slot)
+banks_cases : (params : ℕ) (banks : List ℕ) (scope : Scope) (slot : ℕ) (P : Sight → Type 0) → (slot < params → P sight.Bank) → P (sight_at scope slot)
+    → P (sight_at (with_banks params banks scope) slot)
 banks_cases params [] scope slot P same other = other
 banks_cases params (bank ∷ banks) scope slot P same other =
     banks_cases params banks (if nat_lt bank params then with_sight bank sight.Bank scope else scope) slot P same

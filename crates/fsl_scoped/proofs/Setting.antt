@@ -158,7 +158,8 @@ act_keeps procs = ind-Act (ActKeeps procs) (λ stmt. ActKeeps procs stmt.act)
     (scopes.act_step procs (map-Act Act Stmt Scoped Scoped (act_scoped procs) (stmt_scoped procs) l))) is
     (layer (λ e. e.0) (λ e. e.0) procs r at (act_meaning r) (stmt_of r) (act_scoped procs) (stmt_scoped procs) (λ e. stmt_keeps procs e.0 e.1 r) y) in
     subst (λ (s : Scoped). Keeps (act_meaning r (roll-Act x) at).sets s) (sym (fold-roll-Act Scoped Scoped (scopes.act_step procs) scopes.stmt_step x))
-    (subst (λ (m : Span → Meaning). Keeps (m at).sets (scopes.act_step procs (map-Act Act Stmt Scoped Scoped (act_scoped procs) (stmt_scoped procs) x))) (sym (fold-roll-Act (Span → Meaning) Meaning (paths.act_step r) paths.stmt_step x)) one))
+    (subst (λ (m : Span → Meaning). Keeps (m at).sets (scopes.act_step procs (map-Act Act Stmt Scoped Scoped (act_scoped procs) (stmt_scoped procs) x)))
+    (sym (fold-roll-Act (Span → Meaning) Meaning (paths.act_step r) paths.stmt_step x)) one))
     (λ x y is. subst (λ l. ActKeeps procs l.act) is y.act.1)
 
 pub blocks_set_their_own : BlocksSetTheirOwn
