@@ -1,7 +1,8 @@
 -- Calls: a procedure starts with its `requires` and gives its result back with its `ensures`, while what its caller has
 -- besides stays as it is.
-use Rattle.std.proofs.Common.{◌≡◌, ℕ, zero, suc, ◌+◌, ◌-◌, ◌≤◌, ◌==◌, Bool, true, false, ◌&&◌, ◌||◌, List, [], ◌∷◌, ◌++◌, length, map, replicate, Option, Some, None, is_some, ℤ, pos, slice_get, slice_set, refl, sym, ap, subst, ◌∙◌, arith}
-use Rattle.std.specs.List.{list_all, list_any}
+use Rattle.std.proofs.Common.{◌≡◌, ℕ, zero, suc, ◌+◌, ◌-◌, ◌≤◌, Bool, true, false, ◌&&◌, ◌||◌, List, [], ◌∷◌, ◌++◌}
+use Rattle.std.proofs.Common.{length, map, replicate, Option, Some, None, is_some, ℤ, pos, slice_get, slice_set, refl, sym, ap, subst, ◌∙◌, arith}
+use Rattle.std.specs.List.{list_all}
 use Rattle.std.specs.Option.{option_map}
 use Rattle.std.proofs.lemmas.Bool.{and_parts, eqb-true, or_parts}
 use Rattle.std.proofs.lemmas.List.{append-nil, length-map, length-replicate, length-append}
@@ -18,18 +19,18 @@ use Rattle.fsl_core.specs.Programs.{Program}
 use Rattle.fsl_core.specs.Moves.{Config, running, set_target, returning, calling, arguments_from, arguments_of, act_move}
 use Rattle.fsl_core.specs.Scopes.{reads, sight_at, with_sight, parameters_of, behind_requires, in_body, passes, passes_to, arguments_fit, proc_is_scoped}
 use Rattle.fsl_core.specs.Values.{value_of}
-use Rattle.fsl_core.specs.WellFormed.{is_well_formed, inv_is_well, proc_is_well, proc_fits, stmt_fits, asrt_fits, call_fits, proc_takes, is_startable, main_among}
-use Rattle.fsl_core.specs.logic.States.{Env, State, Rule, followed, here, ◌>>=◌, ◌>>◌}
+use Rattle.fsl_core.specs.WellFormed.{inv_is_well, proc_is_well, proc_fits, stmt_fits, asrt_fits, call_fits, proc_takes, is_startable, main_among}
+use Rattle.fsl_core.specs.logic.States.{Env, State, Rule, ◌>>=◌, ◌>>◌}
 use Rattle.fsl_core.specs.logic.Terms.{expr_of, term, terms}
 use Rattle.fsl_core.specs.logic.Joining.{nought}
 use Rattle.fsl_core.specs.logic.Assertions.{asrt_of}
 use Rattle.fsl_core.specs.logic.Locations.{Contract, contract_of, setting_of}
-use Rattle.fsl_core.specs.logic.Calls.{enter, finish, new_result, set_result, give_pre, gain_post, call_proc, call}
+use Rattle.fsl_core.specs.logic.Calls.{finish, new_result, set_result, give_pre, gain_post, call_proc, call}
 use Rattle.fsl_core.specs.logic.Paths.{Ends, each, block, all_sets, stmt_of, ends_of, path_ends, closing, nowhere, start, set_by_call, return}
 use Rattle.fsl_lin.specs.Combination.{Combination}
 use Rattle.fsl_lin.specs.Numbers.{Numbers}
-use Rattle.fsl_meaning.specs.Means.{Means, AllMean, Grows, padded_numbers}
-use Rattle.fsl_meaning.specs.Heaps.{Key, Heap, Holds, nothing, Ground, AllKnown}
+use Rattle.fsl_meaning.specs.Means.{AllMean, Grows, padded_numbers}
+use Rattle.fsl_meaning.specs.Heaps.{Heap, Holds, nothing, Ground, AllKnown}
 use Rattle.fsl_meaning.specs.States.{All, Fits}
 use Rattle.fsl_meaning.specs.Branches.{Lands}
 use Rattle.fsl_meaning.proofs.Terms.{means_more, means_as, means_constant, all_more, all_none}
@@ -37,7 +38,6 @@ use Rattle.fsl_meaning.proofs.Calculus.{lands_then}
 use Rattle.fsl_meaning.proofs.Owned.{all_lasts}
 use Rattle.fsl_asserted.specs.Exact.{exact_all}
 use Rattle.fsl_asserted.specs.Needs.{Need, asks}
-use Rattle.fsl_asserted.specs.Fitting.{Gives}
 use Rattle.fsl_asserted.proofs.Terms.{reads_term, reads_terms}
 use Rattle.fsl_kept.specs.Calls.{ResultMeans, result_number, numbers_with, numbers_set}
 use Rattle.fsl_kept.proofs.Calls.{enter_fits, result_fits, set_result_fits, give_pre_fits, gain_post_fits, finish_fits}
@@ -45,20 +45,19 @@ use Rattle.fsl_good.specs.Pieces.{Piece, IsPossible}
 use Rattle.fsl_held.specs.Heaps.{heap_of, truth_of, ground_of, Kept}
 use Rattle.fsl_scoped.specs.Assertions.{is_shared, Shares, SameNeed}
 use Rattle.fsl_scoped.proofs.Lists.{get_other}
-use Rattle.fsl_scoped.proofs.Binding.{asrt_binds}
 use Rattle.fsl_scoped.proofs.Assertions.{binders_free}
-use Rattle.fsl_scoped.proofs.Parameters.{ProcFits, parameters_outside}
+use Rattle.fsl_scoped.proofs.Parameters.{ProcFits}
 use Rattle.fsl_scoped.proofs.Parameters.{proc_fits as scope_fits}
-use Rattle.fsl_scoped.proofs.Bodies.{bodies_keep_contracts, bodies_are_declared}
+use Rattle.fsl_scoped.proofs.Bodies.{bodies_keep_contracts, bodies_are_declared, contracts_outside}
 use Rattle.fsl_scoped.proofs.Arguments.{starts_seen}
 use Rattle.fsl_scoped.proofs.Ensures.{ensures_seen, ensures_need_no_result}
-use Rattle.fsl_walk.specs.Covered.{covers, covers_proc, covers_program}
-use Rattle.fsl_walk.specs.Stances.{AllDerived, Activation, reading, config_of, IsGood, IsGoodMove, Stance, Matches, Runs, Returns}
+use Rattle.fsl_walk.specs.Covered.{covers, covers_proc}
+use Rattle.fsl_walk.specs.Stances.{AllDerived, Activation, reading, config_of, IsGood, IsGoodMove, Matches, Runs, Returns}
 use Rattle.fsl_walk.specs.Walks.{IsDerived, IsClosed, Walks}
 use Rattle.fsl_walk.proofs.Slots.{set_long, sees_same, closed_one}
-use Rattle.fsl_walk.proofs.Rounds.{kept_self, kept_less, kept_then, frame_fits, bounded, left_within, right_within, plus, give_parts, take_parts, line_plus_left, line_plus_right}
-use Rattle.fsl_walk.proofs.Steps.{Landed, each_lands, each_tells, each_followed, each_here, good_running, good_local, good_halting, good_given}
-use Rattle.fsl_walk.proofs.Locals.{At, frame_of, line_self, read_is}
+use Rattle.fsl_walk.proofs.Rounds.{kept_self, kept_less, kept_then, frame_fits, bounded, left_within, plus, give_parts, take_parts, line_plus_left, line_plus_right}
+use Rattle.fsl_walk.proofs.Steps.{each_lands, each_tells, each_followed, each_here, good_running, good_local, good_halting, good_given}
+use Rattle.fsl_walk.proofs.Showing.{At, frame_of, line_self, read_is}
 
 -- ---- a procedure of the program
 
@@ -88,9 +87,6 @@ sound p number q d is =
       derived = d.each number q is;
     }
 
-outside : (p : Program) (q : Proc) → Sound p q → (in_body (behind_requires q)).in_ensures ≡ false
-outside p q ok = ((asrt_binds q.pre).later (parameters_of q) ok.fits.pre).result ∙ parameters_outside q
-
 line_room : (slots n : ℕ) → n ≤ slots → n + (slots - n) ≡ slots
 line_room slots n h = omega arith
 
@@ -111,8 +107,8 @@ env_long p q xs numbers n ok long asked =
 abbrev pub Contracted : Proc → List ℤ → List ℤ → Type 0
 Contracted q env = λ zs. Shares (behind_requires q) zs env
 
-contract_closed : (p : Program) (u : Activation) (env : List ℤ) → Sound u.program u.proc → IsClosed (Contracted u.proc env) (all_sets (map (stmt_of (reading u)) u.proc.body))
-contract_closed p u env ok zs slot x is shares = record {
+contract_closed : (u : Activation) (env : List ℤ) → Sound u.program u.proc → IsClosed (Contracted u.proc env) (all_sets (map (stmt_of (reading u)) u.proc.body))
+contract_closed u env ok zs slot x is shares = record {
   long = set_long zs slot x ∙ shares.long;
   alike = λ k shared.
       get_other zs slot k x (λ e.
@@ -125,7 +121,8 @@ nothing_fits : (g : Ground) → Fits [] (All g nothing) (λ (k : ℕ). pos 1) st
 nothing_fits g = record { one = refl; facts = record { all = λ w e. tt }; env = all_none; owns = record { each = tt } }
 
 -- the closing brace gives 0 back
-brace_runs : (u : Activation) (m : ℕ) (scope : Scope) (Q : List ℤ → Type 0) (base : List Piece) (under : Heap) → Returns u m Q base under → Runs u m (closing (asrt_of u.proc.post) u.proc.last) [] scope Q base under
+brace_runs : (u : Activation) (m : ℕ) (scope : Scope) (Q : List ℤ → Type 0) (base : List Piece) (under : Heap) → Returns u m Q base under
+    → Runs u m (closing (asrt_of u.proc.post) u.proc.last) [] scope Q base under
 brace_runs u m scope Q base under returns k le xs slots env v s kept stance matches holds d =
     good_running u k [] env xs (λ j e possible. returns j (omega (arith, le, e)) xs slots v s nought (pos 0) u.proc.last possible kept stance holds (means_constant (pos 0)) d)
 
@@ -135,11 +132,12 @@ pub enters : (u : Activation) (m : ℕ) (xs : List Piece) (under : Heap) (number
 enters u m xs under numbers env need ok walks possible long asked known parts matches returns =
     let q = u.proc in
     let scope = in_body (behind_requires q) in
-    let law = enter_fits q numbers need need.heap long (nothing_fits (ground_of xs)) asked known (λ k. line_none (need.heap k)) (bounded xs need.heap possible (left_within need.heap under (heap_of xs) parts)) in
+    let law = enter_fits q numbers need need.heap long (nothing_fits (ground_of xs)) asked known (λ k. line_none (need.heap k))
+    (bounded xs need.heap possible (left_within need.heap under (heap_of xs) parts)) in
     let landed = each_lands nowhere (λ x s. block (map (stmt_of (reading u)) q.body) 0 s (closing (asrt_of q.post) q.last)) law ok.derived in
     subst (λ (stmts : List Stmt). IsGood u m (config_of u stmts env) xs) (append-nil q.body)
-    (walks q.body scope scope 0 [] (closing (asrt_of q.post) q.last) (Contracted q need.env) xs under ok.fits.body (outside u.program q ok) ok.well ok.covered
-    (bodies_are_declared u.program.procs q) (λ k number. number) (contract_closed u.program u need.env ok)
+    (walks q.body scope scope 0 [] (closing (asrt_of q.post) q.last) (Contracted q need.env) xs under ok.fits.body (contracts_outside q) ok.well ok.covered
+    (bodies_are_declared u.program.procs q) (λ k number. number) (contract_closed u need.env ok)
     (brace_runs u m scope (Contracted q need.env) xs under returns) returns xs need.env env landed.numbers landed.state (kept_self xs under)
     (record { mine = need.heap; fits = landed.is; parts = parts }) matches (record { long = refl; alike = λ k shared. refl }) landed.derived)
   where
@@ -213,7 +211,8 @@ matches_with : (slot : Option ℕ) (x : ℤ) (says : Bool) (scope : Scope) (env 
 matches_with None x says scope env slots matches = matches
 matches_with (Some slot) x says scope env slots matches = sees_same scope env slots slot sight.Local x matches
 
-holds_with : (Q : List ℤ → Type 0) (slot : Option ℕ) (x : ℤ) (says : Bool) (slots : List ℤ) → IsClosed Q (set_by_call slot) → Q slots → Q (numbers_set slots slot (result_number (is_some slot || says) x))
+holds_with : (Q : List ℤ → Type 0) (slot : Option ℕ) (x : ℤ) (says : Bool) (slots : List ℤ) → IsClosed Q (set_by_call slot) → Q slots
+    → Q (numbers_set slots slot (result_number (is_some slot || says) x))
 holds_with Q None x says slots closed holds = holds
 holds_with Q (Some slot) x says slots closed holds = closed_one Q slots slot x closed holds
 
@@ -236,7 +235,8 @@ ensured p q xs values x n false ok long silent asked =
     let alone = ensures_need_no_result p.procs q (truth_of xs) values x n ok.scoped long (silent refl) asked in
     record { need = alone.0; asked = alone.1; same = alone.2 }
 
-goes_back : {Q : List ℤ → Type 0} (u : Activation) (m : ℕ) (p : Caller u Q) (xs : List Piece) (x : ℤ) (n : Need) → Runs u m p.after p.rest (behind_call p.slot p.scope) Q p.base p.under → IsPossible xs
+goes_back : {Q : List ℤ → Type 0} (u : Activation) (m : ℕ) (p : Caller u Q) (xs : List Piece) (x : ℤ) (n : Need) → Runs u m p.after p.rest (behind_call p.slot p.scope) Q p.base p.under
+    → IsPossible xs
     → Kept p.start (plus p.left p.under) xs → asks (truth_of xs) p.q.post Plain (p.values ++ x ∷ []) ≡ Some n → AllKnown (ground_of xs) n.claims → Holds n.heap (plus p.left p.under) (heap_of xs)
     → IsGood u m (running (set_target p.slot x (frame_of u p.rest p.env)) u.below) xs
 goes_back {Q = Q} u m p xs x n runs possible kept asked known parts =
@@ -248,11 +248,11 @@ goes_back {Q = Q} u m p xs x n runs possible kept asked known parts =
     let post = ensured u.program p.q xs p.values x n b p.ok p.long (λ e. (or_parts (is_some p.slot) says e).1) asked in
     let now = frame_fits p.left (kept_less p.left (plus p.left p.under) (λ k. line_plus_left (p.left k) (p.under k)) kept) p.frame in
     let law : Lands p.state.next p.numbers (λ (y : Unit {0}) t w. Fits (numbers_set p.slots p.slot o) (All (ground_of xs) more) w t) (gains p.slot p.q p.terms p.state) =
-            lands_then (result_fits b x (all_lasts (ground_of xs) p.left) now) (λ t s1 w1 g1 r.
-            lands_then (gain_post_fits p.q p.terms p.values t o post.need more r.0 (all_more g1 p.means) r.1 post.asked
-            (subst (AllKnown (ground_of xs)) (sym post.same.claims) known) (subst (λ (h : Heap). Holds h p.left more) (sym post.same.heap) (λ k. line_swap (p.left k) (n.heap k)))
-            (bounded xs more possible (left_within more p.under (heap_of xs) holds))) (λ y s2 w2 g2 fit.
-            set_result_fits p.slot t o fit (result_more t o g2 r.1))) in
+    lands_then (result_fits b x (all_lasts (ground_of xs) p.left) now) (λ t s1 w1 g1 r.
+    lands_then (gain_post_fits p.q p.terms p.values t o post.need more r.0 (all_more g1 p.means) r.1 post.asked
+    (subst (AllKnown (ground_of xs)) (sym post.same.claims) known) (subst (λ (h : Heap). Holds h p.left more) (sym post.same.heap) (λ k. line_swap (p.left k) (n.heap k)))
+    (bounded xs more possible (left_within more p.under (heap_of xs) holds))) (λ y s2 w2 g2 fit.
+    set_result_fits p.slot t o fit (result_more t o g2 r.1))) in
     let landed = each_lands p.at (λ y. p.after) law p.derived in
     subst (λ (c : Config). IsGood u m c xs) (sym (target_is u p.slot x p.rest p.env))
     (runs m (line_self m) xs (numbers_set p.slots p.slot o) (env_with p.slot x p.env) landed.numbers landed.state
@@ -285,10 +285,12 @@ caller_returns u m p runs k le xs zs v s t x at possible kept stance shares mean
 call_enters : {scope : Scope} {Q : List ℤ → Type 0} {base : List Piece} {under : Heap} {xs : List Piece} {slots env : List ℤ} {v : Numbers} {s : State}
     (u : Activation) (m : ℕ) (after : Ends) (rest : List Stmt) (slot : Option ℕ) (proc : ℕ) (args : List Expr) (at : Span) (q : Proc) (vs : List ℤ)
     → ((w : Activation) → IsDerived w.program → Walks w m) → IsDerived u.program → slice_get u.program.procs proc ≡ Some q → arguments_fit scope q.banks 0 args ≡ true → scope.in_ensures ≡ false
-    → length args ≡ q.params → arguments_from q.banks 0 args env ≡ Some vs → IsClosed Q (set_by_call slot) → Runs u m after rest (behind_call slot scope) Q base under → At scope Q base under xs slots env v s
+    → length args ≡ q.params → arguments_from q.banks 0 args env ≡ Some vs → IsClosed Q (set_by_call slot) → Runs u m after rest (behind_call slot scope) Q base under
+    → At scope Q base under xs slots env v s
     → AllDerived (each at (call (setting_of asrt_of u.program) slot proc (map expr_of args) s) (λ x. after))
     → IsGood u m (running (record { stmts = q.body; env = padded_numbers q.slots vs; target = slot }) (frame_of u rest env ∷ u.below)) xs
-call_enters {scope = scope} {Q = Q} {base = base} {under = under} {xs = xs} {slots = slots} {env = env} {v = v} {s = s} u m after rest slot proc args at q vs walks derived is fit out count passed closed runs there d =
+call_enters {scope = scope} {Q = Q} {base = base} {under = under} {xs = xs} {slots = slots} {env = env} {v = v} {s = s} u m after rest slot proc args at q vs walks derived is fit out count passed closed runs there d
+    =
     let setting = setting_of asrt_of u.program in
     let es = map expr_of args in
     let fits = there.stance.fits in
@@ -296,17 +298,40 @@ call_enters {scope = scope} {Q = Q} {base = base} {under = under} {xs = xs} {slo
     let told = each_tells at _ (reads_terms args fits fits.env) (each_followed at (λ ts. call_proc slot (slice_get setting.procs proc) ts) (λ x. after) (terms es s.env s) read) in
     let contract : slice_get setting.procs proc ≡ Some (contract_of asrt_of q) = slice_get-map (contract_of asrt_of) u.program.procs proc ∙ ap (option_map (contract_of asrt_of)) is in
     let known = subst (λ (c : Option Contract). AllDerived (each at (call_proc slot c told.gives s) (λ x. after))) contract told.derived in
-    let pre = each_lands at _ (give_pre_fits q told.gives (exact_all args slots) fits told.is) (each_followed at (λ e. gains slot q e) (λ x. after) (give_pre (contract_of asrt_of q) told.gives s) known) in
+    let pre = each_lands at _ (give_pre_fits q told.gives (exact_all args slots) fits told.is)
+    (each_followed at (λ e. gains slot q e) (λ x. after) (give_pre (contract_of asrt_of q) told.gives s) known) in
     let gives = pre.is in
     let ok = sound u.program proc q derived is in
     let many = length-map args _ ∙ count in
     let long = env_long u.program q xs (exact_all args slots) gives.need ok many gives.is in
     let seen = starts_seen u.program.procs q scope args env slots vs (truth_of xs) Plain gives.need ok.scoped out count fit there.matches.sees passed gives.is in
     let p : Caller u Q = record {
-          q = q; slot = slot; rest = rest; after = after; scope = scope; at = at; base = base; under = under; start = xs; slots = slots; env = env; numbers = pre.numbers; state = pre.state;
-          terms = pre.gives; values = gives.need.env; left = gives.left; ok = ok; long = long; frame = gives.fits; means = gives.env; kept = there.kept; matches = there.matches;
-          holds = there.holds; closed = closed; derived = pre.derived;
-        } in
+      q = q;
+      slot = slot;
+      rest = rest;
+      after = after;
+      scope = scope;
+      at = at;
+      base = base;
+      under = under;
+      start = xs;
+      slots = slots;
+      env = env;
+      numbers = pre.numbers;
+      state = pre.state;
+      terms = pre.gives;
+      values = gives.need.env;
+      left = gives.left;
+      ok = ok;
+      long = long;
+      frame = gives.fits;
+      means = gives.env;
+      kept = there.kept;
+      matches = there.matches;
+      holds = there.holds;
+      closed = closed;
+      derived = pre.derived;
+    } in
     let parts = give_parts there.stance.mine gives.left gives.need.heap under (heap_of xs) gives.parts there.stance.parts in
     enters (callee u p) m xs (plus gives.left under) (exact_all args slots) (padded_numbers q.slots vs) gives.need ok (walks (callee u p) derived) there.possible many gives.is gives.known parts
     (record { long = padded_long q.slots vs (let r = ok.fits.room in let l = seen.0 in omega (arith, r, l)) ∙ sym long; sees = seen.1 })
@@ -327,6 +352,7 @@ call_moves {scope = scope} {xs = xs} {env = env} u m after stmt rest slot proc a
     by_args q (Some vs) passed is fit count =
         good_local u m (running (record { stmts = q.body; env = padded_numbers q.slots vs; target = slot }) (frame_of u rest env ∷ u.below)) xs
         (call_enters u m after rest slot proc args at q vs walks derived is fit out count passed closed runs there d)
+
     by_proc : (o : Option Proc) → slice_get u.program.procs proc ≡ o → passes_to scope args o ≡ true → proc_takes args o ≡ true
         → IsGoodMove u m (calling o slot (arguments_of o args env) (frame_of u rest env ∷ u.below)) xs
     by_proc None is fit takes = absurd (let e : false ≡ true = fit in cc)

@@ -1,8 +1,8 @@
 -- Loops: every round begins with the invariant and gives it back, beside what the frame of the loop has.
-use Rattle.std.proofs.Common.{◌≡◌, ◌⊎◌, inl, inr, ℕ, zero, suc, ◌+◌, ◌<◌, ◌≤◌, ◌==◌, Bool, true, false, ◌||◌, if◌then◌else◌, List, [], ◌∷◌, ◌++◌, length, map, Option, Some, None, ℤ, slice_get, slice_set, refl, sym, ap, subst, ◌∙◌, arith}
+use Rattle.std.proofs.Common.{◌≡◌, ℕ, zero, suc, ◌+◌, ◌<◌, ◌≤◌, ◌==◌, Bool, true, false, ◌||◌, if◌then◌else◌, List}
+use Rattle.std.proofs.Common.{[], ◌∷◌, ◌++◌, length, map, Option, Some, None, ℤ, slice_get, refl, sym, subst, ◌∙◌, arith}
 use Rattle.std.specs.List.{list_all, list_any}
 use Rattle.std.proofs.lemmas.Bool.{and_parts, eqb-true, or_left}
-use Rattle.fsl_base.specs.declared.span.Span.{Span}
 use Rattle.fsl_core.specs.declared.act.Act.{Act}
 use Rattle.fsl_core.specs.declared.act.Act.TheOpen.{Act-F}
 use Rattle.fsl_core.specs.declared.act.Act.TheViews.{out-Act}
@@ -13,7 +13,7 @@ use Rattle.fsl_core.specs.declared.mode.Rung.TheVariants.{Plain}
 use Rattle.fsl_core.specs.declared.scope.Scope.{Scope}
 use Rattle.fsl_core.specs.declared.scope.Sight.{Sight}
 use Rattle.fsl_core.specs.declared.scope.Sight.TheVariants as sight
-use Rattle.fsl_core.specs.Moves.{Config, running, Move, branching, with_stmts, act_move}
+use Rattle.fsl_core.specs.Moves.{Config, running, branching, with_stmts, act_move}
 use Rattle.fsl_core.specs.Scopes.{is_number, is_bank, is_settable, sight_at, in_loop, tests, asrt_scoped, block_scoped}
 use Rattle.fsl_core.specs.Values.{holds_of}
 use Rattle.fsl_core.specs.WellFormed.{stmt_fits}
@@ -21,33 +21,30 @@ use Rattle.fsl_core.specs.logic.States.{State, ◌>>◌}
 use Rattle.fsl_core.specs.logic.Terms.{expr_of}
 use Rattle.fsl_core.specs.logic.Deciding.{cond_of}
 use Rattle.fsl_core.specs.logic.Assertions.{asrt_of}
-use Rattle.fsl_core.specs.logic.Paths.{Ends, each, block, all_sets, Meaning, stmt_of, path_ends, round, give_inv, drop_chunks, body_ends, behind_ends}
+use Rattle.fsl_core.specs.logic.Paths.{Ends, each, all_sets, stmt_of, path_ends, round, give_inv, drop_chunks, body_ends, behind_ends}
 use Rattle.fsl_lin.specs.Numbers.{Numbers}
-use Rattle.fsl_meaning.specs.Heaps.{Key, Heap, Holds, nothing, AllKnown}
-use Rattle.fsl_meaning.specs.Means.{Means}
+use Rattle.fsl_meaning.specs.Heaps.{Heap, Holds, nothing, AllKnown}
 use Rattle.fsl_meaning.specs.States.{All, Fits}
 use Rattle.fsl_meaning.specs.Branches.{Lands}
 use Rattle.fsl_meaning.proofs.Calculus.{lands_then}
 use Rattle.fsl_asserted.specs.Exact.{exact_cond}
 use Rattle.fsl_asserted.specs.Needs.{Need, asks}
-use Rattle.fsl_asserted.specs.Fitting.{Gives}
 use Rattle.fsl_kept.specs.Calls.{renewed}
 use Rattle.fsl_kept.proofs.Calls.{round_fits, give_inv_fits, drop_fits}
 use Rattle.fsl_good.specs.Pieces.{Piece, IsPossible}
 use Rattle.fsl_held.specs.Heaps.{heap_of, truth_of, ground_of, Kept}
 use Rattle.fsl_scoped.specs.Assertions.{is_shared, Shares}
-use Rattle.fsl_scoped.specs.Own.{are_settable}
 use Rattle.fsl_scoped.proofs.Lists.{get_other}
 use Rattle.fsl_scoped.proofs.Assertions.{assertions_seen}
 use Rattle.fsl_scoped.proofs.Exactly.{tests_exact}
 use Rattle.fsl_scoped.proofs.Setting.{blocks_set_their_own}
 use Rattle.fsl_walk.specs.Covered.{covers}
-use Rattle.fsl_walk.specs.Stances.{AllDerived, Activation, reading, config_of, IsGood, IsGoodMove, Stance, Matches, Runs, Returns}
+use Rattle.fsl_walk.specs.Stances.{AllDerived, Activation, reading, config_of, IsGood, IsGoodMove, Matches, Runs, Returns}
 use Rattle.fsl_walk.specs.Walks.{AreDeclared, IsClosed, Walks}
 use Rattle.fsl_walk.proofs.Slots.{set_long, renewed_long, renewed_same, renewed_other, closed_renewed}
-use Rattle.fsl_walk.proofs.Rounds.{kept_self, kept_less, kept_then, frame_fits, bounded, left_within, right_within, plus, give_parts, take_parts, under_less, line_plus_left, line_plus_right}
-use Rattle.fsl_walk.proofs.Steps.{Landed, each_lands, derived_left, derived_right, good_running, good_local, good_halting}
-use Rattle.fsl_walk.proofs.Locals.{At, frame_of, line_self}
+use Rattle.fsl_walk.proofs.Rounds.{kept_self, kept_less, kept_then, frame_fits, bounded, left_within, plus, take_parts, under_less, line_plus_left, line_plus_right}
+use Rattle.fsl_walk.proofs.Steps.{each_lands, good_running, good_local, good_halting}
+use Rattle.fsl_walk.proofs.Showing.{frame_of, line_self}
 
 -- ---- what a loop changes
 
@@ -154,7 +151,8 @@ number_shared s h = or_left (is_number s) (is_bank s) h
 
 -- the body, or what comes to the loop, gives the invariant
 head_by : {Q : List ℤ → Type 0} (u : Activation) (p : Loop u Q) (xs : List Piece) (zs env : List ℤ) (need : Need) → Turned (sets_of u p) p.slots zs → Matches p.scope env zs → IsPossible xs
-    → Kept p.start (plus p.left p.under) xs → asks (truth_of xs) p.inv Plain zs ≡ Some need → AllKnown (ground_of xs) need.claims → Holds need.heap (plus p.left p.under) (heap_of xs) → Head u p xs zs env
+    → Kept p.start (plus p.left p.under) xs → asks (truth_of xs) p.inv Plain zs ≡ Some need → AllKnown (ground_of xs) need.claims → Holds need.heap (plus p.left p.under) (heap_of xs)
+    → Head u p xs zs env
 head_by u p xs zs env need turned matches possible kept asked known parts =
     let shares = turn_shares u p zs turned in
     let seen = assertions_seen p.scope p.inv (truth_of xs) Plain zs (turn_of u p zs) need p.outside p.speaks shares asked in
@@ -193,9 +191,9 @@ ends_turning {Q = Q} u m p xs ys env runs head e =
     let h = plus p.left head.need.heap in
     let parts = take_parts p.left head.need.heap p.under (heap_of xs) head.parts in
     let rule = round_fits p.cond p.inv p.declared (sets_of u p) ys head.need h (frame_now u p xs ys env head) head.asked head.known (λ k. line_swap (p.left k) (head.need.heap k))
-            (bounded xs h head.possible (left_within h p.under (heap_of xs) parts)) in
+    (bounded xs h head.possible (left_within h p.under (heap_of xs) parts)) in
     let law = subst (λ (b : Bool). Lands p.state.next p.numbers (λ (x : Unit {0}) t w. Fits (turn_of u p ys) (All (ground_of xs) h) w t)
-            (round b (cond_of expr_of p.cond) (asrt_of p.inv) p.declared (sets_of u p) p.state)) e rule in
+    (round b (cond_of expr_of p.cond) (asrt_of p.inv) p.declared (sets_of u p) p.state)) e rule in
     let landed = each_lands p.stmt.span (λ x. p.after) law p.ends in
     runs m (line_self m) xs (turn_of u p ys) env landed.numbers landed.state (base_now u p xs head.kept) (record { mine = h; fits = landed.is; parts = parts }) head.matches
     (closed_renewed Q p.declared (sets_of u p) ys p.slots p.closed p.holds) landed.derived
@@ -208,8 +206,10 @@ within_closed : {Q : List ℤ → Type 0} (u : Activation) (p : Loop u Q) → Is
 within_closed u p zs slot x is w = (p.closed zs slot x is w.0, turned_closed (sets_of u p) p.slots zs slot x is w.1)
 
 within_turn : {Q : List ℤ → Type 0} (u : Activation) (p : Loop u Q) (ys : List ℤ) → Within u p (turn_of u p ys)
-within_turn {Q = Q} u p ys = (closed_renewed Q p.declared (sets_of u p) ys p.slots p.closed p.holds,
-    record { long = renewed_long p.declared (sets_of u p) ys p.slots; same = λ k other. renewed_other p.declared (sets_of u p) ys p.slots k other })
+within_turn {Q = Q} u p ys = (
+  closed_renewed Q p.declared (sets_of u p) ys p.slots p.closed p.holds,
+  record { long = renewed_long p.declared (sets_of u p) ys p.slots; same = λ k other. renewed_other p.declared (sets_of u p) ys p.slots k other },
+)
 
 -- a result that the body gives back is one that the procedure gives back
 within_returns : {Q : List ℤ → Type 0} (u : Activation) (m : ℕ) (p : Loop u Q) → Returns u m Q p.base p.under → Returns u m (Within u p) p.start (plus p.left p.under)
@@ -224,14 +224,15 @@ turns_round : {Q : List ℤ → Type 0} (u : Activation) (m : ℕ) (p : Loop u Q
 turns_round u m p xs ys env walks returns again head e =
     let h = head.need.heap in
     let rule = λ (b : Bool). Lands p.state.next p.numbers (λ (x : Unit {0}) t w. Fits (turn_of u p ys) (All (ground_of xs) h) w t)
-            ((drop_chunks >> round b (cond_of expr_of p.cond) (asrt_of p.inv) p.declared (sets_of u p)) p.state) in
+    ((drop_chunks >> round b (cond_of expr_of p.cond) (asrt_of p.inv) p.declared (sets_of u p)) p.state) in
     let law = lands_then (drop_fits nothing (frame_now u p xs ys env head)) (λ x t w g fits.
-            round_fits p.cond p.inv p.declared (sets_of u p) ys head.need h fits head.asked head.known (λ k. line_none (h k))
-            (bounded xs h head.possible (left_within h (plus p.left p.under) (heap_of xs) head.parts))) in
+    round_fits p.cond p.inv p.declared (sets_of u p) ys head.need h fits head.asked head.known (λ k. line_none (h k))
+    (bounded xs h head.possible (left_within h (plus p.left p.under) (heap_of xs) head.parts))) in
     let landed = each_lands p.stmt.span _ (subst rule e law) p.turns in
     walks p.body (in_loop p.scope) p.scope p.declared (p.stmt ∷ p.rest) (λ t. each p.stmt.span (give_inv (asrt_of p.inv) t) (λ y. path_ends p.stmt.span))
     (Within u p) p.start (plus p.left p.under) p.scoped p.outside p.well p.covered p.are_declared (λ k number. number) (within_closed u p) again (within_returns u m p returns)
-    xs (turn_of u p ys) env landed.numbers landed.state head.kept (record { mine = h; fits = landed.is; parts = head.parts }) (record { long = head.matches.long; sees = head.matches.sees }) (within_turn u p ys) landed.derived
+    xs (turn_of u p ys) env landed.numbers landed.state head.kept (record { mine = h; fits = landed.is; parts = head.parts })
+    (record { long = head.matches.long; sees = head.matches.sees }) (within_turn u p ys) landed.derived
 
 abbrev pub LoopMove : {Q : List ℤ → Type 0} → (u : Activation) → ℕ → Loop u Q → List ℤ → List Piece → Type 0
 LoopMove u m p env xs = IsGoodMove u m (act_move u.program (Act-F.While p.cond p.inv p.body) p.stmt (frame_of u p.rest env) u.below) xs
@@ -266,13 +267,15 @@ pub returns_less : {Q : List ℤ → Type 0} {base : List Piece} {under : Heap} 
 returns_less u m k less returns j le = returns j (omega (arith, less, le))
 
 -- the head of the loop, as long as there are moves
-heads : {Q : List ℤ → Type 0} (bound : ℕ) (u : Activation) (m : ℕ) (p : Loop u Q) → m < bound → ((k : ℕ) → k ≤ m → Walks u k) → Runs u m p.after p.rest p.scope Q p.base p.under → Returns u m Q p.base p.under
+heads : {Q : List ℤ → Type 0} (bound : ℕ) (u : Activation) (m : ℕ) (p : Loop u Q) → m < bound → ((k : ℕ) → k ≤ m → Walks u k) → Runs u m p.after p.rest p.scope Q p.base p.under
+    → Returns u m Q p.base p.under
     → (xs : List Piece) (ys env : List ℤ) → Head u p xs ys env → LoopMove u m p env xs
 heads zero u m p less walks runs returns xs ys env head = absurd (omega arith)
 heads (suc bound) u m p less walks runs returns xs ys env head =
     good_branching u m (holds_of p.cond env) (λ b. running (with_stmts (if b then p.body ++ p.stmt ∷ p.rest else p.rest) (frame_of u p.rest env)) u.below) xs (λ b is.
     turn u m p xs ys env (walks m (line_self m)) runs returns
-    (λ k below zs zs2 zs3 there. heads bound u k p (omega (arith, below, less)) (λ j le. walks j (omega (arith, le, below))) (runs_less p.after u m k (omega (arith, below)) runs) (returns_less u m k (omega (arith, below)) returns) zs zs2 zs3 there)
+    (λ k below zs zs2 zs3 there. heads bound u k p (omega (arith, below, less)) (λ j le. walks j (omega (arith, le, below))) (runs_less p.after u m k (omega (arith, below)) runs)
+    (returns_less u m k (omega (arith, below)) returns) zs zs2 zs3 there)
     head b (tests_exact p.scope env (turn_of u p ys) head.matches.sees p.cond b p.tests is))
 
 line_below : (m : ℕ) → m < suc m

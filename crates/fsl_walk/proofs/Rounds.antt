@@ -1,16 +1,14 @@
 -- What stays of a state while frames above it run: it fits on where nothing changed of what it owns.
-use Rattle.std.proofs.Common.{◌≡◌, ℕ, ◌+◌, ◌≤◌, ◌^◌, List, [], ◌∷◌, ◌++◌, ℤ, refl, sym, ap, subst, ◌∙◌, arith}
+use Rattle.std.proofs.Common.{◌≡◌, ℕ, ◌+◌, ◌≤◌, List, ℤ, refl, ◌∙◌, arith}
 use Rattle.fsl_core.specs.logic.States.{State}
-use Rattle.fsl_core.specs.declared.scope.Scope.{Scope}
 use Rattle.fsl_lin.specs.Numbers.{Numbers}
-use Rattle.fsl_meaning.specs.Heaps.{Key, Heap, Holds, Ground, Truth, KnowsMore, Agrees, IsBounded, Knows}
+use Rattle.fsl_meaning.specs.Heaps.{Key, Heap, Holds, IsBounded}
 use Rattle.fsl_meaning.specs.States.{All, Fits}
-use Rattle.fsl_meaning.proofs.Kept.{agrees_less, knows_less, needs_less, fits_kept}
+use Rattle.fsl_meaning.proofs.Kept.{agrees_less, knows_less, fits_kept}
 use Rattle.fsl_meaning.proofs.Joining.{bounded_less}
 use Rattle.fsl_good.specs.Pieces.{Piece, IsPossible}
 use Rattle.fsl_held.specs.Heaps.{heap_of, truth_of, ground_of, Kept}
 use Rattle.fsl_held.proofs.Bounded.{heap_is_bounded}
-use Rattle.fsl_walk.specs.Stances.{Activation, config_of, IsGood, Stance, Matches, Runs}
 
 -- ---- what is kept
 

@@ -1,23 +1,15 @@
 -- A step of the walk: the branch of a rule whose ends are derived, one level of a statement's meaning, and moves that
 -- are good.
-use Rattle.std.proofs.Common.{◌≡◌, ℕ, zero, suc, ◌≤◌, Bool, true, false, ◌&&◌, inl, inr, List, [], ◌∷◌, ◌++◌, map, Option, Some, None, ℤ, refl, sym, ap, subst, ◌∙◌, arith}
-use Rattle.std.specs.List.{list_all}
+use Rattle.std.proofs.Common.{◌≡◌, ℕ, zero, suc, Bool, inl, inr, List, [], ◌∷◌, ◌++◌, Option, Some, None, ℤ, refl, sym, ap, subst, ◌∙◌}
 use Rattle.fsl_base.specs.declared.span.Span.{Span}
 use Rattle.fsl_core.specs.declared.act.Act.{Act}
-use Rattle.fsl_core.specs.declared.act.Act.TheOpen.{Act-F}
 use Rattle.fsl_core.specs.declared.act.Act.TheFolds.{fold-Act, fold-Stmt, fold_out-Act, fold_out-Stmt, map-Act}
 use Rattle.fsl_core.specs.declared.act.Act.TheViews.{out-Act}
 use Rattle.fsl_core.specs.declared.act.Stmt.{Stmt}
-use Rattle.fsl_core.specs.declared.declaration.Proc.{Proc}
 use Rattle.fsl_core.specs.declared.label.Label.{Label}
 use Rattle.fsl_core.specs.declared.need.Need.{Need}
-use Rattle.fsl_core.specs.declared.need.Need.TheVariants as need
-use Rattle.fsl_core.specs.declared.need.Reply.{Reply}
-use Rattle.fsl_core.specs.declared.need.Reply.TheVariants as reply
 use Rattle.fsl_core.specs.Programs.{Program}
-use Rattle.fsl_core.specs.Moves.{Frame, Config, running, halted, failed, Move, Moved, unlabelled, showing, local, halting, given, frame_move}
-use Rattle.fsl_core.specs.Scopes.{Scoped, stmt_scoped, act_scoped}
-use Rattle.fsl_core.specs.Scopes as scopes
+use Rattle.fsl_core.specs.Moves.{Config, halted, failed, Move, Moved, unlabelled, showing, local, halting, given, frame_move}
 use Rattle.fsl_core.specs.Verdicts.{End, derived, failed as fails_at}
 use Rattle.fsl_core.specs.WellFormed.{act_fits, stmt_fits}
 use Rattle.fsl_core.specs.WellFormed as fitting
@@ -27,7 +19,7 @@ use Rattle.fsl_lin.specs.Numbers.{Numbers}
 use Rattle.fsl_meaning.specs.Means.{Grows}
 use Rattle.fsl_meaning.specs.Branches.{Among, Lands, Lands as land, Tells, Tells as tell}
 use Rattle.fsl_good.specs.Pieces.{Piece, IsPossible}
-use Rattle.fsl_good.specs.Good.{Shifts, Shifts as shift, Allows, Good}
+use Rattle.fsl_good.specs.Good.{Shifts as shift, Allows, Good}
 use Rattle.fsl_held.specs.Asked.{logic_of}
 use Rattle.fsl_walk.specs.Covered.{covers_step, covers}
 use Rattle.fsl_walk.specs.Stances.{AllDerived, Activation, config_of, IsGood, IsGoodMove}
@@ -73,7 +65,8 @@ none_fails at after (goes y t ∷ bs) k (inl e) d = absurd (cc)
 none_fails at after (goes y t ∷ bs) k (inr i) d = none_fails at after bs k i (derived_right (after y t) (each at bs after) d)
 none_fails at after (fails j ∷ bs) k i d = d
 
-pub each_lands : {X : Type 0} {n : ℕ} {v : Numbers} {P : X → State → Numbers → Type 0} {bs : Branches X} (at : Span) (after : X → Ends) → Lands n v P bs → AllDerived (each at bs after) → Landed n v P after
+pub each_lands : {X : Type 0} {n : ℕ} {v : Numbers} {P : X → State → Numbers → Type 0} {bs : Branches X} (at : Span) (after : X → Ends) → Lands n v P bs → AllDerived (each at bs after)
+    → Landed n v P after
 each_lands {bs = bs} at after (land.lands x s w i g p) d = record { gives = x; state = s; numbers = w; grows = g; is = p; derived = derived_among at after bs x s i d }
 each_lands {bs = bs} at after (land.stops k i) d = absurd (none_fails at after bs k i d)
 
@@ -96,7 +89,8 @@ each_more at after (goes x s ∷ bs) cs d =
 each_more at after (fails k ∷ bs) cs d = absurd d
 
 -- a rule, and then another one: the ends of the second are behind the branches of the first
-pub each_followed : {X Y : Type 0} (at : Span) (f : X → Rule Y) (after : Y → Ends) (bs : Branches X) → AllDerived (each at (followed bs f) after) → AllDerived (each at bs (λ x s. each at (f x s) after))
+pub each_followed : {X Y : Type 0} (at : Span) (f : X → Rule Y) (after : Y → Ends) (bs : Branches X) → AllDerived (each at (followed bs f) after)
+    → AllDerived (each at bs (λ x s. each at (f x s) after))
 each_followed at f after [] d = tt
 each_followed at f after (goes x s ∷ bs) d =
     let both = each_more at after (f x s) (followed bs f) d in

@@ -1,5 +1,5 @@
 -- The walk: statements whose paths are derived run well, whatever comes after them, by the number of moves that are left.
-use Rattle.std.proofs.Common.{◌≡◌, ℕ, zero, suc, ◌<◌, ◌≤◌, Bool, true, false, ◌&&◌, if◌then◌else◌, List, [], ◌∷◌, ◌++◌, map, Option, Some, None, ℤ, refl, sym, ap, subst, ◌∙◌, arith}
+use Rattle.std.proofs.Common.{◌≡◌, ℕ, zero, suc, ◌<◌, ◌≤◌, Bool, true, false, ◌&&◌, if◌then◌else◌, List, [], ◌∷◌, ◌++◌, map, Some, None, ℤ, refl, sym, ap, subst, ◌∙◌, arith}
 use Rattle.std.specs.List.{list_all}
 use Rattle.std.proofs.lemmas.Bool.{and_parts, and_from}
 use Rattle.fsl_base.specs.declared.span.Span.{Span}
@@ -13,7 +13,7 @@ use Rattle.fsl_core.specs.declared.expr.Cond.{Cond}
 use Rattle.fsl_core.specs.declared.mode.Mode.TheVariants.{Na}
 use Rattle.fsl_core.specs.declared.scope.Scope.{Scope}
 use Rattle.fsl_core.specs.Programs.{Program}
-use Rattle.fsl_core.specs.Moves.{running, with_stmts, branching, act_move}
+use Rattle.fsl_core.specs.Moves.{running, with_stmts, act_move}
 use Rattle.fsl_core.specs.Scopes.{Scoped, reads, tests, is_settable, sight_at, is_number, passes, asrt_scoped, act_scoped, stmt_scoped, block_scoped, scope_after, in_loop, all_fit}
 use Rattle.fsl_core.specs.Scopes as scopes
 use Rattle.fsl_core.specs.Values.{holds_of}
@@ -25,24 +25,24 @@ use Rattle.fsl_core.specs.logic.Deciding.{cond_of, decided}
 use Rattle.fsl_core.specs.logic.Producing.{chosen}
 use Rattle.fsl_core.specs.logic.Assertions.{asrt_of}
 use Rattle.fsl_core.specs.logic.Slots.{past}
-use Rattle.fsl_core.specs.logic.Paths.{Ends, each, Meaning, block, all_sets, act_step, stmt_of, give_inv, body_ends, behind_ends, while_meaning, if_meaning}
+use Rattle.fsl_core.specs.logic.Paths.{Ends, Meaning, block, all_sets, act_step, stmt_of, body_ends, behind_ends, while_meaning, if_meaning}
 use Rattle.fsl_lin.specs.Numbers.{Numbers}
 use Rattle.fsl_meaning.specs.Heaps.{Heap}
-use Rattle.fsl_meaning.specs.States.{All, Fits}
-use Rattle.fsl_asserted.specs.Exact.{exact_cond}
 use Rattle.fsl_kept.proofs.Calls.{branch_fits, give_inv_fits}
 use Rattle.fsl_good.specs.Pieces.{Piece}
-use Rattle.fsl_held.specs.Heaps.{heap_of, ground_of, Kept}
+use Rattle.fsl_held.specs.Heaps.{heap_of}
 use Rattle.fsl_scoped.proofs.Exactly.{tests_exact}
 use Rattle.fsl_scoped.proofs.Setting.{locals_are_declared}
 use Rattle.fsl_scoped.proofs.Statements.{statements_scoped, sights_stay, flags_stay}
 use Rattle.fsl_walk.specs.Covered.{covers_step, covers}
-use Rattle.fsl_walk.specs.Stances.{AllDerived, Activation, reading, config_of, IsGood, IsGoodMove, Stance, Matches, Runs, Returns}
+use Rattle.fsl_walk.specs.Stances.{AllDerived, Activation, reading, config_of, IsGood, IsGoodMove, Runs, Returns}
 use Rattle.fsl_walk.specs.Walks.{IsDerived, AreDeclared, SeesMore, IsClosed, Walks, ParMoves}
 use Rattle.fsl_walk.proofs.Slots.{sees_more, closed_left, closed_right}
 use Rattle.fsl_walk.proofs.Rounds.{give_parts}
-use Rattle.fsl_walk.proofs.Steps.{Landed, each_lands, each_here, derived_left, derived_right, act_of, meaning_of, stmt_folded, fit_of, act_covers, cover_of, good_running}
-use Rattle.fsl_walk.proofs.Locals.{At, frame_of, line_self, set_moves, assert_moves, print_moves, alloc_moves, load_moves, store_moves, free_moves}
+use Rattle.fsl_walk.proofs.Steps.{each_lands, each_here, derived_left, derived_right, act_of, meaning_of, stmt_folded, fit_of, act_covers, cover_of, good_running}
+use Rattle.fsl_walk.proofs.Showing.{At, frame_of, line_self}
+use Rattle.fsl_walk.proofs.Locals.{set_moves, assert_moves, print_moves}
+use Rattle.fsl_walk.proofs.Cells.{alloc_moves, load_moves, store_moves, free_moves}
 use Rattle.fsl_walk.proofs.Loops.{Loop, good_branching, runs_less, returns_less, loop_moves, number_shared}
 use Rattle.fsl_walk.proofs.Calling.{return_moves, call_moves}
 
@@ -78,51 +78,93 @@ block_covered stmts h = all_mapped covers covers (λ stmt. refl) stmts h
 abbrev Below : ℕ → Type 1
 Below m = (k : ℕ) → k ≤ m → (w : Activation) → IsDerived w.program → Walks w k
 
+-- a block may stand in a scope, and Q holds on where it sets variables
+record Stands (u : Activation) (scope : Scope) (Q : List ℤ → Type 0) (stmts : List Stmt) : Type 0 where
+  fits : (block_scoped u.program.procs stmts).fits scope ≡ true
+  well : list_all (stmt_fits u.program) stmts ≡ true
+  covered : list_all covers stmts ≡ true
+  closed : IsClosed Q (all_sets (map (stmt_of (reading u)) stmts))
+
+-- what a branch leads to
+abbrev Branched : Activation → ℕ → Ends → List Stmt → List Stmt → Bool → Ends
+Branched u declared after a b holds = λ t. block (chosen (map (stmt_of (reading u)) a) (map (stmt_of (reading u)) b) holds) declared t after
+
+-- the branch that the run takes is the one that the path has
+branch_runs : {Q : List ℤ → Type 0} {base : List Piece} {under : Heap} {xs : List Piece} {slots env : List ℤ} {w : Numbers} {t : State}
+    (u : Activation) (m declared : ℕ) (scope : Scope) (after : Ends) (rest a b : List Stmt) (h : Bool) → Walks u m → scope.in_ensures ≡ false → AreDeclared scope declared
+    → Stands u scope Q a → Stands u scope Q b → Runs u m after rest scope Q base under → Returns u m Q base under → At scope Q base under xs slots env w t
+    → AllDerived (Branched u declared after a b h t) → IsGood u m (config_of u ((if h then a else b) ++ rest) env) xs
+branch_runs {Q = Q} {base = base} {under = under} {xs = xs} {slots = slots} {env = env} {w = w} {t = t} u m declared scope after rest a b true walks out are on off runs returns at d =
+    walks a scope scope declared rest after Q base under on.fits out on.well on.covered are (λ k number. number) on.closed runs returns
+    xs slots env w t at.kept at.stance at.matches at.holds d
+branch_runs {Q = Q} {base = base} {under = under} {xs = xs} {slots = slots} {env = env} {w = w} {t = t} u m declared scope after rest a b false walks out are on off runs returns at d =
+    walks b scope scope declared rest after Q base under off.fits out off.well off.covered are (λ k number. number) off.closed runs returns
+    xs slots env w t at.kept at.stance at.matches at.holds d
+
 if_moves : {Q : List ℤ → Type 0} {base : List Piece} {under : Heap} {xs : List Piece} {slots env : List ℤ} {v : Numbers} {s : State}
     (u : Activation) (m declared : ℕ) (scope : Scope) (after : Ends) (stmt : Stmt) (rest : List Stmt) (c : Cond) (a b : List Stmt) (at : Span) → Walks u m
-    → tests scope c ≡ true → (block_scoped u.program.procs a).fits scope ≡ true → (block_scoped u.program.procs b).fits scope ≡ true → scope.in_ensures ≡ false
-    → list_all (stmt_fits u.program) a ≡ true → list_all (stmt_fits u.program) b ≡ true → list_all covers a ≡ true → list_all covers b ≡ true → AreDeclared scope declared
-    → IsClosed Q (all_sets (map (stmt_of (reading u)) a)) → IsClosed Q (all_sets (map (stmt_of (reading u)) b)) → Runs u m after rest scope Q base under → Returns u m Q base under
-    → At scope Q base under xs slots env v s
+    → tests scope c ≡ true → scope.in_ensures ≡ false → AreDeclared scope declared → Stands u scope Q a → Stands u scope Q b
+    → Runs u m after rest scope Q base under → Returns u m Q base under → At scope Q base under xs slots env v s
     → AllDerived ((if_meaning (cond_of expr_of c) (map (stmt_of (reading u)) a) (map (stmt_of (reading u)) b) at).ends declared s after)
     → IsGoodMove u m (act_move u.program (Act-F.If c a b) stmt (frame_of u rest env) u.below) xs
-if_moves {Q = Q} {base = base} {under = under} {xs = xs} {slots = slots} {env = env} {v = v} {s = s} u m declared scope after stmt rest c a b at walks test fits_a fits_b out well_a well_b covered_a covered_b are closed_a closed_b runs returns there d =
-    let landed = each_lands at (λ holds t. block (chosen (map (stmt_of (reading u)) a) (map (stmt_of (reading u)) b) holds) declared t after) (branch_fits c there.stance.fits)
-            (each_here at (decided (cond_of expr_of c)) (λ holds t. block (chosen (map (stmt_of (reading u)) a) (map (stmt_of (reading u)) b) holds) declared t after) s d) in
+if_moves {xs = xs} {slots = slots} {env = env} {s = s} u m declared scope after stmt rest c a b at walks test out are on off runs returns there d =
+    let leads = Branched u declared after a b in
+    let landed = each_lands at leads (branch_fits c there.stance.fits) (each_here at (decided (cond_of expr_of c)) leads s d) in
+    let next : At scope _ _ _ xs slots env landed.numbers landed.state = record {
+      possible = there.possible;
+      kept = there.kept;
+      matches = there.matches;
+      holds = there.holds;
+      stance = record { mine = there.stance.mine; fits = landed.is.1; parts = there.stance.parts };
+    } in
     good_branching u m (holds_of c env) (λ h. running (with_stmts ((if h then a else b) ++ rest) (frame_of u rest env)) u.below) xs (λ h is.
-    goes landed h (landed.is.0 ∙ tests_exact scope env slots there.matches.sees c h test is))
-  where
-    goes : (l : Landed s.next v (λ b t w. (b ≡ exact_cond c slots) × Fits slots (All (ground_of xs) there.stance.mine) w t) (λ holds t. block (chosen (map (stmt_of (reading u)) a) (map (stmt_of (reading u)) b) holds) declared t after))
-        → (h : Bool) → l.gives ≡ h → IsGood u m (config_of u ((if h then a else b) ++ rest) env) xs
-    goes l true e =
-        walks a scope scope declared rest after Q base under fits_a out well_a covered_a are (λ k number. number) closed_a runs returns xs slots env l.numbers l.state there.kept
-        (record { mine = there.stance.mine; fits = l.is.1; parts = there.stance.parts }) there.matches there.holds
-        (subst (λ (h : Bool). AllDerived (block (chosen (map (stmt_of (reading u)) a) (map (stmt_of (reading u)) b) h) declared l.state after)) e l.derived)
-    goes l false e =
-        walks b scope scope declared rest after Q base under fits_b out well_b covered_b are (λ k number. number) closed_b runs returns xs slots env l.numbers l.state there.kept
-        (record { mine = there.stance.mine; fits = l.is.1; parts = there.stance.parts }) there.matches there.holds
-        (subst (λ (h : Bool). AllDerived (block (chosen (map (stmt_of (reading u)) a) (map (stmt_of (reading u)) b) h) declared l.state after)) e l.derived)
+    branch_runs u m declared scope after rest a b h walks out are on off runs returns next
+    (subst (λ (k : Bool). AllDerived (leads k landed.state)) (landed.is.0 ∙ tests_exact scope env slots there.matches.sees c h test is) landed.derived))
 
 while_moves : {Q : List ℤ → Type 0} {base : List Piece} {under : Heap} {xs : List Piece} {slots env : List ℤ} {v : Numbers} {s : State}
-    (u : Activation) (m declared : ℕ) (scope : Scope) (after : Ends) (stmt : Stmt) (rest : List Stmt) (c : Cond) (inv : Asrt) (body : List Stmt) → ((k : ℕ) → k ≤ m → Walks u k)
-    → out-Act stmt.act ≡ Act-F.While c inv body → tests scope c ≡ true → (asrt_scoped inv).fits scope ≡ true → (block_scoped u.program.procs body).fits (in_loop scope) ≡ true → scope.in_ensures ≡ false
-    → list_all (stmt_fits u.program) body ≡ true → list_all covers body ≡ true → AreDeclared scope declared
-    → IsClosed Q (all_sets (map (stmt_of (reading u)) body)) → Runs u m after rest scope Q base under → Returns u m Q base under
-    → At scope Q base under xs slots env v s
+    (u : Activation) (m declared : ℕ) (scope : Scope) (after : Ends) (stmt : Stmt) (rest : List Stmt) (c : Cond) (inv : Asrt) (body : List Stmt)
+    → ((k : ℕ) → k ≤ m → Walks u k) → out-Act stmt.act ≡ Act-F.While c inv body → tests scope c ≡ true → (asrt_scoped inv).fits scope ≡ true
+    → scope.in_ensures ≡ false → AreDeclared scope declared → Stands u (in_loop scope) Q body
+    → Runs u m after rest scope Q base under → Returns u m Q base under → At scope Q base under xs slots env v s
     → AllDerived ((while_meaning (cond_of expr_of c) (asrt_of inv) (map (stmt_of (reading u)) body) stmt.span).ends declared s after)
     → IsGoodMove u m (act_move u.program (Act-F.While c inv body) stmt (frame_of u rest env) u.below) xs
-while_moves {Q = Q} {base = base} {under = under} {xs = xs} {slots = slots} {env = env} u m declared scope after stmt rest c inv body walks is test speaks fits out well covered are closed runs returns there d =
+while_moves {Q = Q} {base = base} {under = under} {xs = xs} {slots = slots} {env = env} u m declared scope after stmt rest c inv body walks is test speaks out are stands runs returns there d =
     let ms = map (stmt_of (reading u)) body in
     let turns = λ (t : State). body_ends (cond_of expr_of c) (asrt_of inv) ms stmt.span declared t in
     let ends = λ (t : State). behind_ends (cond_of expr_of c) (asrt_of inv) ms stmt.span declared after t in
     let landed = each_lands stmt.span (λ x t. turns t ++ ends t) (give_inv_fits inv there.stance.fits) d in
     let gives = landed.is.gives in
     let p : Loop u Q = record {
-          stmt = stmt; cond = c; inv = inv; body = body; rest = rest; after = after; declared = declared; scope = scope; base = base; under = under; is = is; tests = test; speaks = speaks; scoped = fits;
-          outside = out; well = well; covered = covered; are_declared = are; closed = closed; start = xs; slots = slots; numbers = landed.numbers; state = landed.state; left = gives.left;
-          frame = gives.fits; kept = there.kept; holds = there.holds;
-          turns = derived_left (turns landed.state) (ends landed.state) landed.derived; ends = derived_right (turns landed.state) (ends landed.state) landed.derived;
-        } in
+      stmt = stmt;
+      cond = c;
+      inv = inv;
+      body = body;
+      rest = rest;
+      after = after;
+      declared = declared;
+      scope = scope;
+      base = base;
+      under = under;
+      is = is;
+      tests = test;
+      speaks = speaks;
+      scoped = stands.fits;
+      outside = out;
+      well = stands.well;
+      covered = stands.covered;
+      are_declared = are;
+      closed = stands.closed;
+      start = xs;
+      slots = slots;
+      numbers = landed.numbers;
+      state = landed.state;
+      left = gives.left;
+      frame = gives.fits;
+      kept = there.kept;
+      holds = there.holds;
+      turns = derived_left (turns landed.state) (ends landed.state) landed.derived;
+      ends = derived_right (turns landed.state) (ends landed.state) landed.derived;
+    } in
     loop_moves u m p walks runs returns env gives.need there.possible there.matches gives.is gives.known
     (give_parts there.stance.mine gives.left gives.need.heap under (heap_of xs) gives.parts there.stance.parts)
 
@@ -147,23 +189,30 @@ walk_act u m declared scope after stmt rest (Act-F.Store Na e f) ok below par is
 walk_act u m declared scope after stmt rest (Act-F.Call None proc args) ok below par is fits out well covered are closed runs returns there d =
     call_moves u m after stmt rest None proc args stmt.span (below m (line_self m)) ok fits out well closed runs there d
 walk_act u m declared scope after stmt rest (Act-F.Call (Some slot) proc args) ok below par is fits out well covered are closed runs returns there d =
-    call_moves u m after stmt rest (Some slot) proc args stmt.span (below m (line_self m)) ok (and_parts (is_settable (sight_at scope slot)) (passes u.program.procs scope proc args) fits).1 out well closed runs there d
-walk_act {Q = Q} {base = base} {under = under} {xs = xs} {slots = slots} {env = env} {v = v} {s = s} u m declared scope after stmt rest (Act-F.Par calls) ok below par is fits out well covered are closed runs returns there d =
-    par calls stmt scope rest after Q base under stmt.span fits out (and_parts _ (list_all (child_fits u.program) calls) well).1 runs xs slots env v s there.possible there.kept there.stance there.matches there.holds d
+    call_moves u m after stmt rest (Some slot) proc args stmt.span (below m (line_self m)) ok
+    (and_parts (is_settable (sight_at scope slot)) (passes u.program.procs scope proc args) fits).1 out well closed runs there d
+walk_act {Q = Q} {base = base} {under = under} {xs = xs} {slots = slots} {env = env} {v = v} {s = s} u m declared scope after stmt rest
+    (Act-F.Par calls) ok below par is fits out well covered are closed runs returns there d =
+    par calls stmt scope rest after Q base under stmt.span fits out
+    (and_parts _ (list_all (child_fits u.program) calls) well).1 runs xs slots env v s there.possible there.kept there.stance there.matches there.holds d
 walk_act {Q = Q} u m declared scope after stmt rest (Act-F.If c a b) ok below par is fits out well covered are closed runs returns there d =
-    let scoped = and_parts (tests scope c) ((block_scoped u.program.procs a).fits scope && (block_scoped u.program.procs b).fits scope) fits in
-    let blocks = and_parts ((block_scoped u.program.procs a).fits scope) ((block_scoped u.program.procs b).fits scope) scoped.1 in
+    let procs = u.program.procs in
+    let scoped = and_parts (tests scope c) ((block_scoped procs a).fits scope && (block_scoped procs b).fits scope) fits in
+    let blocks = and_parts ((block_scoped procs a).fits scope) ((block_scoped procs b).fits scope) scoped.1 in
     let wells = and_parts (list_all (λ x. x) (map (stmt_folded u.program) a)) (list_all (λ x. x) (map (stmt_folded u.program) b)) well in
     let covereds = and_parts (list_all (λ x. x) (map covers a)) (list_all (λ x. x) (map covers b)) covered in
     let sets_a = all_sets (map (stmt_of (reading u)) a) in
     let sets_b = all_sets (map (stmt_of (reading u)) b) in
-    if_moves u m declared scope after stmt rest c a b stmt.span (below m (line_self m) u ok) scoped.0 blocks.0 blocks.1 out (block_fits u.program a wells.0) (block_fits u.program b wells.1)
-    (block_covered a covereds.0) (block_covered b covereds.1) are (closed_left Q sets_a sets_b closed) (closed_right Q sets_a sets_b closed) runs returns there d
+    if_moves u m declared scope after stmt rest c a b stmt.span (below m (line_self m) u ok) scoped.0 out are
+    (record { fits = blocks.0; well = block_fits u.program a wells.0; covered = block_covered a covereds.0; closed = closed_left Q sets_a sets_b closed })
+    (record { fits = blocks.1; well = block_fits u.program b wells.1; covered = block_covered b covereds.1; closed = closed_right Q sets_a sets_b closed }) runs returns there d
 walk_act u m declared scope after stmt rest (Act-F.While c inv body) ok below par is fits out well covered are closed runs returns there d =
-    let scoped = and_parts (tests scope c) ((asrt_scoped inv).fits scope && (block_scoped u.program.procs body).fits (in_loop scope)) fits in
-    let both = and_parts ((asrt_scoped inv).fits scope) ((block_scoped u.program.procs body).fits (in_loop scope)) scoped.1 in
+    let procs = u.program.procs in
+    let scoped = and_parts (tests scope c) ((asrt_scoped inv).fits scope && (block_scoped procs body).fits (in_loop scope)) fits in
+    let both = and_parts ((asrt_scoped inv).fits scope) ((block_scoped procs body).fits (in_loop scope)) scoped.1 in
     let wells = and_parts (asrt_fits u.program.invs inv true) (list_all (λ x. x) (map (stmt_folded u.program) body)) well in
-    while_moves u m declared scope after stmt rest c inv body (λ k le. below k le u ok) is scoped.0 both.0 both.1 out (block_fits u.program body wells.1) (block_covered body covered) are closed runs returns there d
+    while_moves u m declared scope after stmt rest c inv body (λ k le. below k le u ok) is scoped.0 both.0 out are
+    (record { fits = both.1; well = block_fits u.program body wells.1; covered = block_covered body covered; closed = closed }) runs returns there d
 walk_act u m declared scope after stmt rest (Act-F.Assert c) ok below par is fits out well covered are closed runs returns there d =
     assert_moves u m after stmt rest c stmt.span fits runs there d
 walk_act u m declared scope after stmt rest (Act-F.Print e) ok below par is fits out well covered are closed runs returns there d =
@@ -177,18 +226,19 @@ walk_act u m declared scope after stmt rest _ ok below par is fits out well cove
 -- what comes after a statement of a block: the others, and what comes after the block
 rest_runs : {Q : List ℤ → Type 0} {base : List Piece} {under : Heap}
     (u : Activation) (m k declared : ℕ) (scope behind : Scope) (stmt : Stmt) (stmts rest : List Stmt) (after : Ends) → ((j : ℕ) → j ≤ k → Walks u j) → k ≤ m
-    → (block_scoped u.program.procs (stmt ∷ stmts)).fits scope ≡ true → scope.in_ensures ≡ false → list_all (stmt_fits u.program) stmts ≡ true → list_all covers stmts ≡ true
-    → AreDeclared scope declared → SeesMore behind scope → IsClosed Q (all_sets (map (stmt_of (reading u)) stmts)) → Runs u m after rest behind Q base under → Returns u m Q base under
-    → Runs u k (λ t. block (map (stmt_of (reading u)) stmts) (past declared (stmt_of (reading u) stmt).sets) t after) (stmts ++ rest) (scope_after u.program.procs stmt scope) Q base under
-rest_runs {Q = Q} {base = base} {under = under} u m k declared scope behind stmt stmts rest after walks less fits out well covered are sees closed runs returns j le xs slots env v s kept stance matches holds d =
+    → (stmt_scoped u.program.procs stmt).fits scope ≡ true → scope.in_ensures ≡ false → Stands u (scope_after u.program.procs stmt scope) Q stmts
+    → AreDeclared scope declared → SeesMore behind scope → Runs u m after rest behind Q base under → Returns u m Q base under
+    → Runs u k (λ t. block (map (stmt_of (reading u)) stmts) (past declared (stmt_of (reading u) stmt).sets) t after) (stmts ++ rest)
+    (scope_after u.program.procs stmt scope) Q base under
+rest_runs {Q = Q} {base = base} {under = under} u m k declared scope behind stmt stmts rest after walks less fits out stands are sees runs returns j le xs slots env v s kept stance matches holds d =
     let procs = u.program.procs in
-    let next = scope_after procs stmt scope in
-    let both = and_parts ((stmt_scoped procs stmt).fits scope) (all_fit (map (stmt_scoped procs) stmts) next) fits in
-    let alone = and_from ((stmt_scoped procs stmt).fits scope) true both.0 refl in
-    walks j le stmts next behind (past declared (stmt_of (reading u) stmt).sets) rest after Q base under both.1 ((flags_stay procs (stmt ∷ []) scope).0 ∙ out) well covered
-    (locals_are_declared procs (reading u) stmt scope declared are)
-    (λ slot number. ap is_number (sights_stay procs (stmt ∷ []) scope slot alone (number_shared (sight_at scope slot) (sees slot number))) ∙ sees slot number)
-    closed (runs_less after u m j (omega (arith, less, le)) runs) (returns_less u m j (omega (arith, less, le)) returns) xs slots env v s kept stance matches holds d
+    let alone = and_from ((stmt_scoped procs stmt).fits scope) true fits refl in
+    let stays = λ (slot : ℕ) (number : is_number (sight_at scope slot) ≡ true).
+    sights_stay procs (stmt ∷ []) scope slot alone (number_shared (sight_at scope slot) number) in
+    walks j le stmts (scope_after procs stmt scope) behind (past declared (stmt_of (reading u) stmt).sets) rest after Q base under
+    stands.fits ((flags_stay procs (stmt ∷ []) scope).0 ∙ out) stands.well stands.covered (locals_are_declared procs (reading u) stmt scope declared are)
+    (λ slot number. ap is_number (stays slot (sees slot number)) ∙ sees slot number) stands.closed
+    (runs_less after u m j (omega (arith, less, le)) runs) (returns_less u m j (omega (arith, less, le)) returns) xs slots env v s kept stance matches holds d
 
 walk : (m : ℕ) → ((k : ℕ) → k < m → (w : Activation) → IsDerived w.program → Walks w k) → ((w : Activation) (k : ℕ) → IsDerived w.program → ParMoves w k)
     → (u : Activation) → IsDerived u.program → Walks u m
@@ -202,12 +252,14 @@ walk m below par u ok (stmt ∷ stmts) scope behind declared rest after Q base u
     let sets = (stmt_of r stmt).sets in
     let more = all_sets (map (stmt_of r) stmts) in
     let next = λ (t : State). block (map (stmt_of r) stmts) (past declared sets) t after in
-    let scoped = (and_parts ((stmt_scoped procs stmt).fits scope) (all_fit (map (stmt_scoped procs) stmts) (scope_after procs stmt scope)) fits).0 in
+    let scoped = and_parts ((stmt_scoped procs stmt).fits scope) (all_fit (map (stmt_scoped procs) stmts) (scope_after procs stmt scope)) fits in
+    let others : Stands u (scope_after procs stmt scope) Q stmts = record { fits = scoped.1; well = wells.1; covered = covereds.1; closed = closed_right Q sets more closed } in
     good_running u m (stmt ∷ (stmts ++ rest)) env xs (λ k e possible.
     let less = λ (j : ℕ) (le : j ≤ k) (w : Activation) (derived : IsDerived w.program). below j (omega (arith, le, e)) w derived in
-    let goes = rest_runs u m k declared scope behind stmt stmts rest after (λ j le. less j le u ok) (omega (arith, e)) fits out wells.1 covereds.1 are sees (closed_right Q sets more closed) runs returns in
+    let goes = rest_runs u m k declared scope behind stmt stmts rest after (λ j le. less j le u ok) (omega (arith, e)) scoped.0 out others are sees runs returns in
     walk_act u k declared scope next stmt (stmts ++ rest) (out-Act stmt.act) ok less (par u k ok) refl
-    (subst (λ (c : Scoped). c.fits scope ≡ true) (statements_scoped procs stmt) scoped) out (sym (fit_of u.program stmt) ∙ wells.0) (sym (cover_of stmt) ∙ covereds.0) are
+    (subst (λ (c : Scoped). c.fits scope ≡ true) (statements_scoped procs stmt) scoped.0) out
+    (sym (fit_of u.program stmt) ∙ wells.0) (sym (cover_of stmt) ∙ covereds.0) are
     (subst (λ (n : Meaning). IsClosed Q n.sets) (meaning_of r stmt) (closed_left Q sets more closed))
     (subst (λ (c : Scoped). Runs u k next (stmts ++ rest) (c.behind scope) Q base under) (statements_scoped procs stmt) goes)
     (returns_less u m k (omega (arith, e)) returns) (record { possible = possible; kept = kept; stance = stance; matches = matches; holds = holds })

@@ -1,5 +1,5 @@
 -- Statements whose moves are shown to be good so far: all but accesses to atomic locations, fences, banks and tokens.
-use Rattle.std.specs.Prelude.{Bool, true, false, ◌&&◌, List, map}
+use Rattle.std.specs.Prelude.{Bool, true, false, ◌&&◌, List}
 use Rattle.std.specs.List.{list_all}
 use Rattle.fsl_core.specs.declared.act.Act.TheOpen.{Act-F}
 use Rattle.fsl_core.specs.declared.act.Act.TheFolds.{fold-Stmt}

@@ -4,7 +4,6 @@ use Rattle.fsl_core.specs.declared.scope.Scope.{Scope}
 use Rattle.fsl_core.specs.declared.scope.Sight.{Sight}
 use Rattle.fsl_core.specs.Scopes.{with_sight}
 use Rattle.fsl_walk.specs.Stances.{Matches}
-use Rattle.fsl_walk.specs.Walks.{SeesMore}
 
 -- a variable that is set on both sides is seen the same, whatever it was
 abbrev pub SeesAreSame : Type 0

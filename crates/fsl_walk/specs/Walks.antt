@@ -1,8 +1,7 @@
 -- What the walk shows: statements that are scoped, and whose paths are derived, run well; with what comes after them.
-use Rattle.std.specs.Prelude.{ℕ, ◌≡◌, ◌<◌, Bool, true, false, List, [], ◌∷◌, ◌++◌, map, length, Option, Some, ℤ, ◌==◌, slice_get, slice_set}
+use Rattle.std.specs.Prelude.{ℕ, ◌≡◌, ◌<◌, true, false, List, ◌++◌, map, Some, ℤ, ◌==◌, slice_get, slice_set}
 use Rattle.std.specs.List.{list_all, list_any}
 use Rattle.fsl_base.specs.declared.span.Span.{Span}
-use Rattle.fsl_core.specs.declared.act.Act.{Act}
 use Rattle.fsl_core.specs.declared.act.Act.TheOpen.{Act-F}
 use Rattle.fsl_core.specs.declared.act.Called.{Called}
 use Rattle.fsl_core.specs.declared.act.Stmt.{Stmt}
