@@ -78,8 +78,11 @@ ends p (owes post e) q env scoped long owed under xs slots v s t x at possible s
     record {
       atoms = parted.atoms;
       gives = dropped xs parted.atoms parted.rest parted.gives;
-      pays = (seen.0, subst (λ (a : Asrt). Satisfies a (e ++ x ∷ []) seen.0 parted.atoms) (sym owed.0)
-          (subst (λ (zs : List ℤ). Satisfies q.post (zs ++ x ∷ []) seen.0 parted.atoms) (sym owed.1) parted.satisfies));
+      pays = (
+        seen.0,
+        subst (λ (a : Asrt). Satisfies a (e ++ x ∷ []) seen.0 parted.atoms) (sym owed.0)
+            (subst (λ (zs : List ℤ). Satisfies q.post (zs ++ x ∷ []) seen.0 parted.atoms) (sym owed.1) parted.satisfies),
+      );
     }
 
 pub end_returns : (p : Program) (o : Debt) (q : Proc) (env : List ℤ) (m : ℕ) (base : List Piece) (under : Heap) → proc_is_scoped p.procs q ≡ true → length env ≡ q.slots → OwedFor p o q env

@@ -1,7 +1,6 @@
 -- Calls that run side by side: each is started with what it requires, and when all have ended, what they ensure stands
 -- beside what was left.
-use Rattle.std.proofs.Common.{◌≡◌, ℕ, ◌+◌, ◌≤◌, true, false, List, [], ◌++◌, map, length, Option, Some, None, ℤ, refl, arith}
-use Rattle.std.specs.List.{list_all}
+use Rattle.std.proofs.Common.{◌≡◌, ℕ, ◌+◌, ◌≤◌, true, List, [], ◌++◌, map, length, Option, Some, None, ℤ, refl, arith}
 use Rattle.fsl_base.specs.declared.span.Span.{Span}
 use Rattle.fsl_core.specs.declared.act.Called.{Called}
 use Rattle.fsl_core.specs.declared.act.Stmt.{Stmt}
@@ -10,8 +9,7 @@ use Rattle.fsl_core.specs.declared.need.Started.{Started as Start}
 use Rattle.fsl_core.specs.declared.scope.Scope.{Scope}
 use Rattle.fsl_core.specs.Programs.{Program}
 use Rattle.fsl_core.specs.Moves.{Frame, joining, forking, started_of}
-use Rattle.fsl_core.specs.Scopes.{passes}
-use Rattle.fsl_core.specs.WellFormed.{child_fits, is_well_formed}
+use Rattle.fsl_core.specs.WellFormed.{is_well_formed}
 use Rattle.fsl_core.specs.logic.States.{State, followed, here}
 use Rattle.fsl_core.specs.logic.Terms.{expr_of}
 use Rattle.fsl_core.specs.logic.Assertions.{asrt_of}
