@@ -40,7 +40,7 @@ use Rattle.fsl_updated.specs.Steps.{steps_truth, steps_heap}
 use Rattle.fsl_updated.specs.Updates.{LeavesMean, Reads, Replaces}
 use Rattle.fsl_updated.proofs.Finding.{leaves_more}
 use Rattle.fsl_updated.proofs.Forgetting.{lands_forget, lands_apart}
-use Rattle.fsl_updated.proofs.Stepping.{steps_fit}
+use Rattle.fsl_updated.proofs.Stepping.{steps_cell, steps_fit}
 
 -- ---- heaps
 
@@ -72,8 +72,8 @@ line_room n w h m l k = omega arith
 line_both : (m t h a g l d : ℕ) → m + t ≡ h → m ≡ a + g → t ≡ l + d → a + l ≤ h
 line_both m t h a g l d e i j = omega arith
 
-line_message : (m a g x y : ℕ) → m ≡ a + g → x + y ≤ a → x + (y + g) ≤ m
-line_message m a g x y e l = omega arith
+line_message : (n m a g x y : ℕ) → m ≡ n → m ≡ a + g → x + y ≤ a → x + (y + g) ≤ n
+line_message n m a g x y i e l = omega arith
 
 line_got : (n : ℕ) → 1 ≤ 0 + n → 1 ≤ n
 line_got n h = omega arith
@@ -151,7 +151,7 @@ replace_fits {slots = slots} {h = h} {inv = inv} {args = args} {x = x} {y = y} p
       need_is = b.need_is;
       kept = c.kept;
       joined = c.joined;
-      message = λ k. line_message (lifted Msg Msg after k) (b.kept k) (b.given k) (c.kept k) (c.joined k) (b.message_is k) (c.within k);
+      message = λ z. let q = key.Cell Msg z in line_message (more q) (after q) (b.kept q) (b.given q) (c.kept q) (c.joined q) (steps_cell slots steps more Msg z) (b.message_is q) (c.within q);
       left = b.left;
       thread = b.thread_is;
       shared = λ z n. let q = c.shared z n in (q.0, line_got (b.given (key.Cell Msg z)) q.1);

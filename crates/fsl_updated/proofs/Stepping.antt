@@ -1,8 +1,9 @@
 -- Token steps, one after the other.
-use Rattle.std.proofs.Common.{◌≡◌, ℕ, ◌-◌, ◌≤◌, Bool, true, false, List, [], ◌∷◌, map, ℤ, pos, ◌+ℤ◌, ◌-ℤ◌, ◌≤ℤ◌, if◌then◌else◌, refl, sym, subst, ◌∙◌, arith}
+use Rattle.std.proofs.Common.{◌≡◌, ℕ, ◌+◌, ◌-◌, ◌≤◌, Bool, true, false, List, [], ◌∷◌, map, ℤ, pos, ◌+ℤ◌, ◌-ℤ◌, ◌≤ℤ◌, if◌then◌else◌, refl, sym, subst, ◌∙◌, arith}
 use Rattle.std.specs.Ordering.{int_eq}
 use Rattle.std.proofs.lemmas.Int.{ints}
 use Rattle.fsl_core.specs.declared.act.Step.{Step}
+use Rattle.fsl_core.specs.declared.mode.Rung.{Rung}
 use Rattle.fsl_core.specs.logic.States.{State}
 use Rattle.fsl_core.specs.logic.Terms.{expr_of}
 use Rattle.fsl_core.specs.logic.Tokens.{step_of, token_steps}
@@ -19,7 +20,7 @@ use Rattle.fsl_kept.specs.Changes.{grounded, allowing, with_more}
 use Rattle.fsl_kept.specs.Results.{Steps}
 use Rattle.fsl_kept.proofs.Banks.{allowed_is, minted_bounds, step_fits}
 use Rattle.fsl_kept.proofs.Locals.{if_other}
-use Rattle.fsl_updated.specs.Steps.{amount_of, stepped, tokens_stepped, step_truth, step_heap, MayStep, MakesSteps}
+use Rattle.fsl_updated.specs.Steps.{amount_of, stepped, tokens_stepped, step_truth, step_heap, steps_heap, MayStep, MakesSteps}
 
 -- ---- bounds where tokens were burned
 
@@ -76,6 +77,24 @@ made_of g {slots = slots} {w = w} {s = s} {h = h} false number z bounds c = reco
       (burned_bounds g.truth h number c.amount c.enough bounds);
   fits = subst (λ (x : ℤ). Fits slots (All (grounded g (allowing number (g.truth.bank number -ℤ x) g.truth)) (less h (key.Tokens number) (amount_of x))) w s) (sym c.is) c.fits;
 }
+
+-- ---- cells
+
+line_more : (n : ℕ) → 0 + n ≡ n
+line_more n = omega arith
+
+line_less : (n : ℕ) → n - 0 ≡ n
+line_less n = omega arith
+
+step_cell : (mint : Bool) (number : ℤ) (n : ℕ) (h : Heap) (r : Rung) (l : ℤ) → tokens_stepped mint number n h (key.Cell r l) ≡ h (key.Cell r l)
+step_cell true number n h r l = line_more (h (key.Cell r l))
+step_cell false number n h r l = line_less (h (key.Cell r l))
+
+-- steps leave cells as they are
+pub steps_cell : (slots : List ℤ) (xs : List Step) (h : Heap) (r : Rung) (l : ℤ) → steps_heap slots xs h (key.Cell r l) ≡ h (key.Cell r l)
+steps_cell slots [] h r l = refl
+steps_cell slots (x ∷ xs) h r l =
+    steps_cell slots xs (step_heap slots x h) r l ∙ step_cell x.mint (bank_number x.bank slots) (amount_of (exact x.n slots)) h r l
 
 -- ---- all steps
 

@@ -86,7 +86,7 @@ pub record Replaces (read : Ground) (m : Mode) (steps : List Step) (slots : List
   pub need_is : (k : Key) → need.heap k ≡ lifted Msg (giving m) given k + added k
   pub kept : Heap
   pub joined : Heap
-  pub message : (k : Key) → kept k + (joined k + given k) ≤ lifted Msg Msg (steps_heap slots steps more) k
+  pub message : (l : ℤ) → kept (Cell Msg l) + (joined (Cell Msg l) + given (Cell Msg l)) ≤ more (Cell Msg l)
   pub left : Heap
   pub thread : (k : Key) → without Msg (steps_heap slots steps more) k ≡ left k + added k
   pub shared : (l : ℤ) → 1 ≤ joined (Cell Msg l) → (1 ≤ left (Cell Plain l)) × (1 ≤ given (Cell Msg l))
