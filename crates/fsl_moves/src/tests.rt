@@ -163,6 +163,10 @@ fn choosing(alloc: Global, n: i128) -> Result<Program, AllocError> {
             slot: 0,
             e: number(n)
         },
+        Act::Set {
+            slot: 1,
+            e: number(0)
+        },
         Act::If { cond, yes, no },
         returns(1),
     ]?;
@@ -176,7 +180,14 @@ fn counting(alloc: Global) -> Result<Program, AllocError> {
     let body = block(alloc, rounds)?;
     let cond = less(0, 2);
     let inv = Asrt::Emp;
-    let main = vec![in alloc; Act::While { cond, inv, body }, returns(0)]?;
+    let main = vec![in alloc;
+        Act::Set {
+            slot: 0,
+            e: number(0)
+        },
+        Act::While { cond, inv, body },
+        returns(0),
+    ]?;
     program(alloc, main, Vec::new(alloc))
 }
 
@@ -184,13 +195,13 @@ fn args_of(alloc: Global, n: i128) -> Result<List<Expr>, AllocError> {
     Ok(List::from_vec(vec![in alloc; number(n)]?))
 }
 
-// A procedure that returns one more than its argument, out of a loop, is called.
+// A procedure that returns one more than its argument, out of a block, is called.
 fn calling(alloc: Global) -> Result<Program, AllocError> {
     let e = one_more(alloc, 0)?;
-    let body = block(alloc, vec![in alloc; Act::Return { e }]?)?;
+    let yes = block(alloc, vec![in alloc; Act::Return { e }]?)?;
+    let no = List::new(alloc);
     let cond = Cond::Yes;
-    let inv = Asrt::Emp;
-    let other = vec![in alloc; Act::While { cond, inv, body }]?;
+    let other = vec![in alloc; Act::If { cond, yes, no }]?;
     let slot = Some(2);
     let args = args_of(alloc, 41)?;
     let main = vec![in alloc;
@@ -239,9 +250,9 @@ fn forking(alloc: Global) -> Result<Program, AllocError> {
 #[test]
 fn makes_the_moves_of_a_program(rt: HostRuntime) -> Result<(), AllocError> {
     let alloc = rt.alloc();
-    assert_eq!(rt; after(alloc, &choosing(alloc, 0)?, 4)?, ends(5, 1, 0));
-    assert_eq!(rt; after(alloc, &choosing(alloc, 1)?, 4)?, ends(6, 1, 0));
-    assert_eq!(rt; after(alloc, &counting(alloc)?, 8)?, ends(2, 3, 0));
+    assert_eq!(rt; after(alloc, &choosing(alloc, 0)?, 5)?, ends(5, 1, 0));
+    assert_eq!(rt; after(alloc, &choosing(alloc, 1)?, 5)?, ends(6, 1, 0));
+    assert_eq!(rt; after(alloc, &counting(alloc)?, 9)?, ends(2, 3, 0));
     assert_eq!(rt; after(alloc, &calling(alloc)?, 4)?, ends(42, 1, 0));
     assert_eq!(rt; after(alloc, &exchanging(alloc, 7)?, 2)?, ends(7, 2, 1));
     assert_eq!(rt; after(alloc, &exchanging(alloc, 6)?, 2)?, ends(7, 2, 0));
