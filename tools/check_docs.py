@@ -18,7 +18,7 @@ from functools import lru_cache
 from pathlib import Path
 
 TOP = Path(__file__).resolve().parent.parent
-NAMING = ["ARCHITECTURE.md", "DEFINITIONS.md", "LAWS.md", "CONTRACTS.md"]
+NAMING = ["ARCHITECTURE.md", "DEFINITIONS.md", "LAWS.md", "CONTRACTS.md", "SOUNDNESS.md"]
 SPAN = re.compile(r"`([^`\n]+)`")
 FILE = re.compile(r"^[\w./*-]*\w\.(?:rt|antt|md|py|sh|fsl|txt)$|^[\w-]+(?:/[\w.*-]*)+$")
 CRATE = re.compile(r"^(?:(?:fsl|test|bench)_\w+|fslpp)$")
