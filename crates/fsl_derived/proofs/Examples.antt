@@ -32,14 +32,10 @@ use Rattle.fsl_core.specs.logic.Verdicts.{verdict_by, verdict_of}
 use Rattle.fsl_core.proofs.Sights.{stmt_is}
 use Rattle.fsl_judged.specs.Words.{Act-Layer, num, var, nothing, at, thread, span, proc}
 use Rattle.fsl_judged.proofs.Quick.{quick_ends, verdict_quick}
-use Rattle.fsl_walk.specs.Covered.{covers_step, covers, covers_proc, covers_program}
 use Rattle.fsl_derived.specs.Examples.{cell_body, one_cell, two_calls, two_threads, ExamplesAreSafe}
-use Rattle.fsl_derived.proofs.Safety.{cells_are_safe}
+use Rattle.fsl_derived.proofs.Safety.{accepted_are_safe}
 
 -- ---- one level of each
-
-covered_at : (from to : ℕ) (l : Act-Layer) → covers (at from to l) ≡ covers_step (map-Act Act Stmt Bool Bool (fold-Act Bool Bool covers_step (λ stmt. stmt.act)) covers l)
-covered_at from to l = fold_out-Stmt Bool Bool covers_step (λ stmt. stmt.act) (at from to l) ∙ fold-roll-Act Bool Bool covers_step (λ stmt. stmt.act) l
 
 fits_at : (p : Program) (from to : ℕ) (l : Act-Layer) → stmt_fits p (at from to l) ≡ act_step p (map-Act Act Stmt Bool Bool (act_fits p) (fold-Stmt Bool Bool (act_step p) (λ stmt. stmt.act)) l)
 fits_at p from to l = fold-roll-Act Bool Bool (act_step p) (λ stmt. stmt.act) l
@@ -94,11 +90,6 @@ cell_fits p =
     three (stmt_fits p) (at 14 31 (Act-F.AllocNa 0)) (at 32 47 (Act-F.Store Na (var 0) (num 7))) (at 48 67 (Act-F.Load 1 Na (var 0)))
     (fits_at p 14 31 (Act-F.AllocNa 0)) (fits_at p 32 47 (Act-F.Store Na (var 0) (num 7))) (fits_at p 48 67 (Act-F.Load 1 Na (var 0)))
 
-cell_covered : list_all covers cell_body ≡ true
-cell_covered =
-    three covers (at 14 31 (Act-F.AllocNa 0)) (at 32 47 (Act-F.Store Na (var 0) (num 7))) (at 48 67 (Act-F.Load 1 Na (var 0)))
-    (covered_at 14 31 (Act-F.AllocNa 0)) (covered_at 32 47 (Act-F.Store Na (var 0) (num 7))) (covered_at 48 67 (Act-F.Load 1 Na (var 0)))
-
 -- where the cell is declared
 abbrev declared : Scope
 declared = with_sight 0 sight.Local (in_body (nothing_declared 2))
@@ -126,9 +117,6 @@ one_cell_well : is_well_formed one_cell ≡ true
 one_cell_well =
     and_from (list_all (proc_is_well one_cell) one_cell.procs) (is_startable (main_among one_cell.procs))
     (one (proc_is_well one_cell) (proc (codes "main") 0 2 [] nothing nothing cell_body (span 68 69)) (cell_is_well one_cell (codes "main"))) empty_is
-
-one_cell_covered : covers_program one_cell ≡ true
-one_cell_covered = one covers_proc (proc (codes "main") 0 2 [] nothing nothing cell_body (span 68 69)) cell_covered
 
 -- ---- two threads
 
@@ -160,11 +148,6 @@ two_threads_well =
     and_from (list_all (proc_is_well two_threads) two_threads.procs) (is_startable (main_among two_threads.procs))
     (two (proc_is_well two_threads) (proc (codes "cell") 0 2 [] nothing nothing cell_body (span 68 69)) main_proc (cell_is_well two_threads (codes "cell")) main_is_well) empty_is
 
-two_threads_covered : covers_program two_threads ≡ true
-two_threads_covered =
-    two covers_proc (proc (codes "cell") 0 2 [] nothing nothing cell_body (span 68 69)) main_proc cell_covered
-    (one covers (at 84 107 (Act-F.Par two_calls)) (covered_at 84 107 (Act-F.Par two_calls)))
-
 -- ---- by computing
 
 one_cell_whole : verdict_by (quick_ends one_cell) one_cell.procs ≡ Accepted 1
@@ -178,9 +161,9 @@ two_threads_whole = refl
 pub examples_are_safe : ExamplesAreSafe
 examples_are_safe = record {
   one_cell_is = one_cell_accepted;
-  one_cell_is_safe = cells_are_safe one_cell one_cell_well 1 one_cell_accepted one_cell_covered;
+  one_cell_is_safe = accepted_are_safe one_cell one_cell_well 1 one_cell_accepted;
   two_threads_are = two_threads_accepted;
-  two_threads_are_safe = cells_are_safe two_threads two_threads_well 2 two_threads_accepted two_threads_covered;
+  two_threads_are_safe = accepted_are_safe two_threads two_threads_well 2 two_threads_accepted;
 }
   where
     one_cell_accepted : verdict_of one_cell ≡ Accepted 1

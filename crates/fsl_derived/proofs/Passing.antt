@@ -34,9 +34,6 @@ one_of test [] number q h e = absurd (let f : None ≡ Some q = e in cc)
 one_of test (x ∷ xs) zero q h e = subst (λ (z : Proc). test z ≡ true) (some_is e) (and_parts (test x) (list_all test xs) h).0
 one_of test (x ∷ xs) (suc n) q h e = one_of test xs n q (and_parts (test x) (list_all test xs) h).1 e
 
-pub all_procs : (test : Proc → Bool) (procs : List Proc) (number : ℕ) (q : Proc) → list_all test procs ≡ true → slice_get procs number ≡ Some q → test q ≡ true
-all_procs = one_of
-
 pub well_proc : (p : Program) (number : ℕ) (q : Proc) → is_well_formed p ≡ true → slice_get p.procs number ≡ Some q → (proc_fits p q ≡ true) × (proc_is_scoped p.procs q ≡ true)
 well_proc p number q h e =
     let all = and_parts (list_all (inv_is_well p.invs) p.invs) (list_all (proc_is_well p) p.procs && is_startable (main_among p.procs)) h in

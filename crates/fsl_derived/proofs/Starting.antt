@@ -23,7 +23,6 @@ use Rattle.fsl_good.specs.Pieces.{AtPlain, Piece, all_placed, IsPossible}
 use Rattle.fsl_good.specs.Good.{Good}
 use Rattle.fsl_held.specs.Heaps.{heap_of, truth_of, ground_of}
 use Rattle.fsl_held.specs.Asked.{Debt, StartsWith, logic_of}
-use Rattle.fsl_walk.specs.Covered.{covers_proc}
 use Rattle.fsl_walk.specs.Stances.{Activation, config_of, reading, IsGood}
 use Rattle.fsl_walk.specs.Walks.{IsDerived, Walks}
 use Rattle.fsl_held.proofs.Bounded.{heap_is_bounded}
@@ -33,7 +32,7 @@ use Rattle.fsl_scoped.proofs.Parameters.{proc_fits as parts_of}
 use Rattle.fsl_walk.proofs.Rounds.{kept_self}
 use Rattle.fsl_walk.proofs.Steps.{each_lands, good_possible}
 use Rattle.fsl_walk.proofs.Walk.{walks}
-use Rattle.fsl_derived.proofs.Passing.{all_procs, well_proc}
+use Rattle.fsl_derived.proofs.Passing.{well_proc}
 use Rattle.fsl_derived.proofs.Par.{par_moves}
 use Rattle.fsl_derived.proofs.Ending.{AtStart, body_closed, outermost, end_returns, closing_runs}
 
@@ -84,7 +83,7 @@ body_good p derived o call ys s n possible =
     let returns = end_returns p o q s.need.env n xs nothing well.1 long s.owed in
     subst (λ (stmts : List Stmt). IsGood u n (config_of u stmts env) xs) (append-nil q.body)
     (all_walk u n derived q.body (in_body (behind_requires q)) (in_body (behind_requires q)) 0 [] (closing (asrt_of q.post) q.last) (AtStart q s.need.env) xs nothing
-    scoped.body (contracts_outside q) (body_fits p q well.0) (all_procs covers_proc p.procs call.proc q derived.covered s.is)
+    scoped.body (contracts_outside q) (body_fits p q well.0)
     (bodies_are_declared p.procs q) (λ slot seen. seen) (body_closed p.procs q (reading u) s.need.env well.1)
     (closing_runs u n q.last (in_body (behind_requires q)) (AtStart q s.need.env) xs nothing returns) returns
     xs s.need.env env land.numbers land.state (kept_self xs nothing)

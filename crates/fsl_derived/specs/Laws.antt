@@ -10,15 +10,15 @@ use Rattle.fsl_graph.specs.Sequenced.{IsAcyclic}
 use Rattle.fsl_graph.specs.Consistent.{IsConsistent}
 use Rattle.fsl_graph.specs.Execution.{IsExecution}
 use Rattle.fsl_graph.specs.Safe.{IsSafe}
-use Rattle.fsl_walk.specs.Covered.{covers_program}
 
 -- nothing unsafe is done in any execution
 abbrev pub IsSafeAlways : Program → Type 0
 IsSafeAlways p = (g : Graph) (last : ℕ → Config) → IsExecution p g last → IsConsistent g → IsAcyclic g → IsSafe g last
 
--- where the rules accept p, and it has neither atomic locations nor banks, it is safe
+-- where the rules accept p, it is safe
 abbrev pub AcceptedIsSafe : Program → Type 0
-AcceptedIsSafe p = (n : ℕ) → verdict_of p ≡ Accepted n → covers_program p ≡ true → IsSafeAlways p
+AcceptedIsSafe p = (n : ℕ) → verdict_of p ≡ Accepted n → IsSafeAlways p
 
-abbrev pub CellsAreSafe : Type 0
-CellsAreSafe = (p : Program) → is_well_formed p ≡ true → AcceptedIsSafe p
+-- so are all programs that are well formed
+abbrev pub AcceptedAreSafe : Type 0
+AcceptedAreSafe = (p : Program) → is_well_formed p ≡ true → AcceptedIsSafe p

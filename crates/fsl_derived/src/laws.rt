@@ -1,10 +1,10 @@
 //! What the verdict of the rules promises. Each call does nothing; its contract is the law.
-ghost use Rattle.fsl_derived.specs.Laws.{CellsAreSafe};
+ghost use Rattle.fsl_derived.specs.Laws.{AcceptedAreSafe};
 ghost use Rattle.fsl_derived.specs.Examples.{ExamplesAreSafe};
 
-/// An accepted program does nothing unsafe in any execution, where it has neither atomic locations nor banks.
+/// An accepted program does nothing unsafe in any consistent execution without a cycle.
 pub fn accepted_is_safe()
-    ensures { CellsAreSafe }
+    ensures { AcceptedAreSafe }
 {}
 
 /// There are such programs: one that makes, stores and loads a cell, and one of two threads that do so side by side.

@@ -13,7 +13,7 @@ use Rattle.fsl_own.proofs.Atoms.{demand_append, right_append, right_front, right
 use Rattle.fsl_ground.specs.Ground.{Meaning, Ground, IsFree}
 use Rattle.fsl_ground.proofs.Ground.{same_agrees, ground_by_giving, ground_by_joining}
 use Rattle.fsl_ground.proofs.Gaining.{cells_of, else_of, in_two}
-use Rattle.fsl_good.specs.Pieces.{Level, AtPlain, AtUp, AtDown, same_level, holder_of, Piece, all_placed, demand_at, RightPieces, Fits, Yields}
+use Rattle.fsl_good.specs.Pieces.{Level, AtPlain, AtUp, AtDown, same_level, holder_of, Piece, all_placed, demand_at, RightPieces, Fits, Yields, Told}
 use Rattle.fsl_good.specs.Good.{AllShares, Passes, giving, gaining}
 use Rattle.fsl_good.specs.Keeping.{Keeps}
 use Rattle.fsl_good.proofs.Pieces.{demand_more, right_more, placed_right, fits_entailed}
@@ -305,20 +305,33 @@ joined_up asks g done k w t e s l on kept joins mine rest atoms meets shares par
       (same_keeps k two.world five.world (holder_of u a) (λ r. let b = four.others u a n r in let c = five.others u a n r in omega arith));
 }
 
+-- what is told to each other is had, as what was there before
+both_told : (g : Graph) (done : List ℕ) (k : Known) (w : World) (t : ℕ) (h : Holder) (pool : List Atom) (xs : List Piece) (message : List Atom) (thread : List Piece) → Told pool xs message thread
+    → Holds g done k w h pool → Fits g done k w t xs → Fits g done k w t thread × Holds g done k w h message
+both_told g done k w t h pool xs message thread told held f =
+    let said = told.right g done k h t held.right f.right in
+    (record { enough = λ a r. let x = told.of_thread a r in let y = f.enough a r in omega arith; right = said.1 }, record {
+      enough = λ r. let x = told.of_message r in let y = held.enough r in omega arith;
+      right = said.0;
+    })
+
 pub pass_on : (asks : Meaning) (g : Graph) (done : List ℕ) (k : Known) (w : World) (t e s : ℕ) (m : Mode) (new : ℤ) (inv : ℕ) (args : List ℤ) (K : List Piece → Type 0) (pool : List Atom) (zs : List Piece)
     → Both g done k t e s m → Ground asks g done (e ∷ []) k w → Fits g done k w t zs → Holds g done k w (holder.Message s 0) pool → (p : Passes asks m new inv args K pool zs)
     → Passed asks g done k w t e (all_placed (gaining m) p.kept ++ (all_placed AtPlain p.joins ++ p.rest)) p.atoms
 pass_on asks g done k w t e s m new inv args K pool zs both x f held p =
     from (give_mine asks g done k w t e s m p.on p.kept p.joins p.mine p.rest both (give_on asks g done k w t e s m p.on p.kept p.joins both x all)
-    (fits_entailed g done k w t zs (all_placed (giving m) p.mine ++ p.rest) f p.gives))
+    (fits_entailed g done k w t p.thread (all_placed (giving m) p.mine ++ p.rest) told.0 p.gives))
   where
+    told : Fits g done k w t p.thread × Holds g done k w (holder.Message s 0) p.message
+    told = both_told g done k w t (holder.Message s 0) pool zs p.message p.thread p.told held f
+
     all : (r : Resource) → demand p.on r + (demand p.kept r + demand p.joins r) ≤ w (holder.Message s 0) r
-    all r = let a = p.divides.enough r in let b = held.enough r in let c = demand_append p.on (p.kept ++ p.joins) r in let d = demand_append p.kept p.joins r in omega arith
+    all r = let a = p.divides.enough r in let b = told.1.enough r in let c = demand_append p.on (p.kept ++ p.joins) r in let d = demand_append p.kept p.joins r in omega arith
 
     last : (two : MineGiven asks g done k w t e s p.on p.kept p.joins p.mine p.rest) → KeptGiven asks g done k two.world t e s (gaining m) p.kept p.joins
         → Passed asks g done k w t e (all_placed (gaining m) p.kept ++ (all_placed AtPlain p.joins ++ p.rest)) p.atoms
     last two four = joined_up asks g done k w t e s (gaining m) p.on p.kept p.joins p.mine p.rest p.atoms p.meets p.shares
-        (parts_right g done k t e s (gaining m) p.on p.kept p.joins p.shares both.on both.reads (p.divides.right g done k (holder.Message s 0) held.right)) two four
+        (parts_right g done k t e s (gaining m) p.on p.kept p.joins p.shares both.on both.reads (p.divides.right g done k (holder.Message s 0) told.1.right)) two four
         (give_joins asks g done k four.world t e s p.joins both.apart both.free both.on four.ground four.left (λ c o. (
           (let a = (p.joined c o).0 in let b = two.fits.enough AtPlain (Cell c) in let d = four.came AtPlain (Cell c) in omega arith),
           (let a = (p.joined c o).1 in let b = two.filled (Cell c) in let d = four.message (Cell c) in omega arith),

@@ -19,7 +19,7 @@ use Rattle.fsl_core.specs.Moves.{Config, failed, showing, moved, need_of}
 use Rattle.fsl_own.specs.Owning.{Resource, Cell, full, Deal}
 use Rattle.fsl_own.specs.Atoms.{Atom, Points, Init, Rel, Acq, RmwAcq, Tok, Auth, Has, demand}
 use Rattle.fsl_ground.specs.Ground.{Meaning}
-use Rattle.fsl_good.specs.Pieces.{together, Level, AtPlain, AtUp, AtDown, Piece, all_placed, plain, demand_at, Entails, Yields, IsPossible}
+use Rattle.fsl_good.specs.Pieces.{together, Level, AtPlain, AtUp, AtDown, Piece, all_placed, plain, demand_at, Entails, Yields, Told, IsPossible}
 
 -- what contracts and invariants come to
 pub record Logic : Type 1 where
@@ -128,17 +128,20 @@ abbrev pub AllShares : List Atom → Type 0
 AllShares [] = Unit {0}
 AllShares (x ∷ xs) = (c : ℤ) × (n : ℕ) × (v : Option ℤ) × (x ≡ Points c n v) × AllShares xs
 
--- the message's pool is divided: on to the new message, kept where the read puts it, and shares that join those of
+-- what the message and the thread say is told to each other. Then the message's pool is divided: on to the new message, kept where the read puts it, and shares that join those of
 -- cells of which the thread has a plain one and the new message keeps one. The thread adds what is its own
 pub record Passes (asks : Meaning) (m : Mode) (new : ℤ) (inv : ℕ) (args : List ℤ) (K : List Piece → Type 0) (pool : List Atom) (xs : List Piece) : Type 0 where
+  pub message : List Atom
+  pub thread : List Piece
+  pub told : Told pool xs message thread
   pub on : List Atom
   pub kept : List Atom
   pub joins : List Atom
   pub mine : List Atom
   pub rest : List Piece
   pub atoms : List Atom
-  pub divides : Yields pool (on ++ (kept ++ joins))
-  pub gives : Entails xs (all_placed (giving m) mine ++ rest)
+  pub divides : Yields message (on ++ (kept ++ joins))
+  pub gives : Entails thread (all_placed (giving m) mine ++ rest)
   pub meets : Yields (on ++ mine) atoms
   pub asked : asks (deal true inv args) 0 new atoms
   pub shares : AllShares joins

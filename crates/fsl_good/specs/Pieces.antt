@@ -79,6 +79,13 @@ pub record Yields (xs ys : List Atom) : Type 0 where
   pub enough : (r : Resource) → demand ys r ≤ demand xs r
   pub right : (g : Graph) (done : List ℕ) (k : Known) (h : Holder) → AreRight g done k h xs → AreRight g done k h ys
 
+-- atoms of a message and pieces of a thread, where each side may also say what the other one says
+pub record Told (pool : List Atom) (xs : List Piece) (message : List Atom) (thread : List Piece) : Type 0 where
+  pub of_message : (r : Resource) → demand message r ≤ demand pool r
+  pub of_thread : (a : Level) (r : Resource) → demand_at a thread r ≤ demand_at a xs r
+  pub right : (g : Graph) (done : List ℕ) (k : Known) (h : Holder) (t : ℕ) → AreRight g done k h pool → RightPieces g done k t xs
+      → AreRight g done k h message × RightPieces g done k t thread
+
 abbrev pub AllSay : Known → List Piece → Type 0
 AllSay k [] = Unit {0}
 AllSay k (x ∷ xs) = Says k x.atom × AllSay k xs

@@ -5,15 +5,16 @@ use Rattle.fsl_core.specs.logic.Chunks.{same_rung}
 use Rattle.fsl_meaning.specs.Heaps.{Key, Key as key, Heap, Claim, IsInit, MayWrite, MayRead, MayUpdate, Knows, Needs, Agrees}
 use Rattle.fsl_own.specs.Owning.{Resource, Cell, Permission, Tokens, Bank}
 use Rattle.fsl_own.specs.Owning.{Heap as Amounts}
-use Rattle.fsl_good.specs.Pieces.{Level, AtPlain, AtUp, AtDown, same_level, Piece, all_placed, demand_at, Entails, IsPossible}
+use Rattle.fsl_good.specs.Pieces.{Level, AtPlain, AtUp, AtDown, same_level, Piece, all_placed, demand_at, Entails, Yields, IsPossible}
+use Rattle.fsl_own.proofs.Atoms.{demand_append, right_append}
 use Rattle.fsl_good.proofs.Pieces.{demand_more, right_more, all_say}
 use Rattle.fsl_held.specs.Heaps.{heap_of, truth_of, ground_of, value_in, Kept}
-use Rattle.fsl_held.specs.Parts.{rung_of, HasCellsAt, is_claim_at, Cut}
+use Rattle.fsl_held.specs.Parts.{rung_of, HasCellsAt, is_claim_at, atoms_of, Cut}
 use Rattle.fsl_held.specs.Laws.{HeapIsCut}
 use Rattle.fsl_held.proofs.Cuts.{Values, level_of, given, rest, cut_sum, given_is}
-use Rattle.fsl_held.proofs.Given.{EachOf, SaysPiece, each_says, all_say_by, given_each, rest_each, given_right, rest_right, says_turn, values_known}
-use Rattle.fsl_held.proofs.Given.{same_level_is, InPlace, given_placed, atoms_of, placed_again, placed_nowhere, given_knows, rest_knows}
-use Rattle.fsl_held.proofs.Filled.{parts_agree, deal_of, reads_known}
+use Rattle.fsl_held.proofs.Given.{EachOf, SaysPiece, each_says, all_say_by, given_each, rest_each, given_right, rest_right, given_held, rest_held, held_says, says_turn, values_known}
+use Rattle.fsl_held.proofs.Given.{same_level_is, InPlace, given_placed, placed_again, placed_nowhere, given_knows, rest_knows}
+use Rattle.fsl_held.proofs.Filled.{atoms_demand, parts_agree, deal_of, reads_known}
 
 -- ---- a part of a heap, as amounts of resources
 
@@ -115,6 +116,7 @@ rest_claims a d xs p s h e (MayRead l i args) n k = leave_kept xs (rest_of a d x
 -- the same of a list of pieces that stand in place
 record CutInto (a : Level) (d : Heap) (xs gs rs : List Piece) : Type 0 where
   gives : Entails xs (gs ++ rs)
+  yields : Yields (atoms_of xs) (atoms_of gs ++ atoms_of rs)
   taken : (k : Key) → heap_of gs k ≡ d k
   left : (k : Key) → heap_of xs k ≡ heap_of rs k + d k
   agrees : Agrees (truth_of xs) (truth_of gs) d
@@ -142,6 +144,20 @@ cut_into a d xs p one h =
             let v = values_known k xs (all_say g done k t xs q) in
             right_more g done k t gs rs (given_right f g done k t v a n xs q) (rest_right f g done k t v a n xs q);
       };
+      yields = record {
+        enough = λ r.
+            let all = atoms_demand xs r in
+            let some = atoms_demand gs r in
+            let others = atoms_demand rs r in
+            let m = demand_append (atoms_of gs) (atoms_of rs) r in
+            let s = sum AtPlain r in
+            let t = sum AtUp r in
+            let u = sum AtDown r in
+            omega (arith, all, some, others, m, s, t, u);
+        right = λ g done k h q.
+            let v = values_known k xs (held_says g done k h xs q) in
+            right_append g done k h (atoms_of gs) (atoms_of rs) (given_held f g done k h v a n xs q) (rest_held f g done k h v a n xs q);
+      };
       taken = taken;
       left = λ k. let s = heap_by gs rs xs sum k in let t = taken k in omega (arith, s, t);
       agrees = parts_agree xs gs p (λ P Q t e. given_each f P Q t a n xs e) (λ r. let s = sum AtPlain r in omega (arith, s)) d (λ k. let t = taken k in omega (arith, t));
@@ -164,7 +180,7 @@ cut_of a d xs gs rs p c =
     record {
       atoms = atoms_of gs;
       rest = rs;
-      is = record { gives = q.gives; taken = q.taken; left = q.left; agrees = q.agrees; knows = q.knows; kept = q.kept; possible = q.possible };
+      is = record { gives = q.gives; yields = c.yields; taken = q.taken; left = q.left; agrees = q.agrees; knows = q.knows; kept = q.kept; possible = q.possible };
     }
 
 pub heap_cut : HeapIsCut

@@ -8,18 +8,19 @@ use Rattle.fsl_core.specs.declared.mode.Rung.TheVariants.{Plain, Up, Down, Msg}
 use Rattle.fsl_meaning.specs.Heaps.{Key, Key as key, Heap as Amounts, MayRead, Agrees}
 use Rattle.fsl_meaning.proofs.Deciding.{equal, is_equal}
 use Rattle.fsl_own.specs.Owning.{Resource, Cell, Permission, Bank, Heap, Deal, Known}
-use Rattle.fsl_own.specs.Atoms.{Atom, Points, Init, Rel, Acq, RmwAcq, Tok, Auth, asked, Says, IsFor}
+use Rattle.fsl_own.specs.Atoms.{Atom, Points, Init, Rel, Acq, RmwAcq, Tok, Auth, asked, demand, Says, IsFor}
 use Rattle.fsl_own.proofs.Totals.{none_or_some, only_elsewhere, only_some}
 use Rattle.fsl_good.specs.Pieces.{Level, AtPlain, AtUp, AtDown, same_level, Piece, asked_at, demand_at, IsPossible}
 use Rattle.fsl_held.specs.Heaps.{heap_of, truth_of, is_at, same_numbers, same_leave, says, knows_in, or_else, or_this, value_by, value_in, out_by, out_in, count_by, count_in, bank_in}
-use Rattle.fsl_held.proofs.Cuts.{Values}
+use Rattle.fsl_held.specs.Parts.{atoms_of}
+use Rattle.fsl_held.proofs.Cuts.{Values, sized}
 use Rattle.fsl_held.proofs.Heaps.{Speaks, out_speaks, count_speaks}
 use Rattle.fsl_held.proofs.Given.{EachOf, Turns, SaysPiece, each_says}
 
 -- ---- a resource of which pieces say something
 
 -- a piece says v, or has nothing of the resource and says nothing
-abbrev Tells : {X : Type 0} → (Atom → Option X) → Resource → X → Piece → Type 0
+abbrev pub Tells : {X : Type 0} → (Atom → Option X) → Resource → X → Piece → Type 0
 Tells say r v x = (say x.atom ≡ Some v) ⊎ ((say x.atom ≡ None) × (asked x.atom r ≡ 0))
 
 none_at : (b : Bool) (n : ℕ) → n ≡ 0 → (if b then n else 0) ≡ 0
@@ -27,7 +28,7 @@ none_at true n e = e
 none_at false n e = refl
 
 -- who has some of it says v; `look` gives what the first piece says
-told : {X : Type 0} (say : Atom → Option X) (look : List Piece → Option X) → ((x : Piece) (xs : List Piece) → look (x ∷ xs) ≡ or_else (say x.atom) (look xs))
+pub told : {X : Type 0} (say : Atom → Option X) (look : List Piece → Option X) → ((x : Piece) (xs : List Piece) → look (x ∷ xs) ≡ or_else (say x.atom) (look xs))
     → (r : Resource) (v : X) (a : Level) (xs : List Piece) → EachOf (Tells say r v) xs → 1 ≤ demand_at a xs r → look xs ≡ Some v
 told say look is r v a [] p l = absurd (let z : 1 ≤ 0 = l in omega arith)
 told {X = X} say look is r v a (x ∷ xs) p l = is x xs ∙ elim p.0 [
@@ -38,7 +39,7 @@ told {X = X} say look is r v a (x ∷ xs) p l = is x xs ∙ elim p.0 [
 -- ---- resources of which there is one alone
 
 -- at all levels
-abbrev in_all : List Piece → Heap
+abbrev pub in_all : List Piece → Heap
 in_all xs r = demand_at AtPlain xs r + (demand_at AtUp xs r + demand_at AtDown xs r)
 
 in_all_more : (x : Piece) (xs : List Piece) (r : Resource) → in_all (x ∷ xs) r ≡ asked x.atom r + in_all xs r
@@ -50,7 +51,12 @@ in_all_more x xs r = by_level x.level (asked x.atom r) (demand_at AtPlain xs r) 
     by_level AtUp n i j k = omega arith
     by_level AtDown n i j k = omega arith
 
-in_all_least : (a : Level) (xs : List Piece) (r : Resource) → demand_at a xs r ≤ in_all xs r
+-- it is what the atoms ask for
+pub atoms_demand : (xs : List Piece) (r : Resource) → demand (atoms_of xs) r ≡ in_all xs r
+atoms_demand [] r = refl
+atoms_demand (x ∷ xs) r = let m = in_all_more x xs r in let e = atoms_demand xs r in omega (arith, m, e)
+
+pub in_all_least : (a : Level) (xs : List Piece) (r : Resource) → demand_at a xs r ≤ in_all xs r
 in_all_least AtPlain xs r = omega arith
 in_all_least AtUp xs r = omega arith
 in_all_least AtDown xs r = omega arith
@@ -92,17 +98,20 @@ count_turn f b n a (Tok c i) m s h = inr (refl, refl)
 count_turn f b n a (Auth c i) m s h = h
 
 -- each share of a cell says the value that the list says
-value_turn : (f : Values) (l v : ℤ) → f l ≡ Some v → (P : Piece → Type 0) → Turns f P (Tells (λ x. value_by x l) (Cell l) v)
-value_turn f l v e P a (Points c n w) m s h = elim (cases_Bool (int_eq l c)) [
+pub value_sized : (f : Values) (l v : ℤ) → f l ≡ Some v → (a : Level) (x : Atom) (m : ℕ) → Tells (λ y. value_by y l) (Cell l) v (record { level = a; atom = sized f x m })
+value_sized f l v e a (Points c n w) m = elim (cases_Bool (int_eq l c)) [
   | inl t ↦ inl (rw t (ap f (sym (equal l c t)) ∙ e))
   | inr t ↦ inr (rw t refl, only_elsewhere (Cell c) (Cell l) m (λ q. absurd (let i : l ≡ c = cc in let j : int_eq l c ≡ true = is_equal l c i in cc)))
 ]
-value_turn f l v e P a (Init c) m s h = inr (refl, refl)
-value_turn f l v e P a (Rel c inv args) m s h = inr (refl, refl)
-value_turn f l v e P a (Acq c inv args q out) m s h = inr (refl, refl)
-value_turn f l v e P a (RmwAcq c inv args) m s h = inr (refl, refl)
-value_turn f l v e P a (Tok b n) m s h = inr (refl, refl)
-value_turn f l v e P a (Auth b n) m s h = inr (refl, refl)
+value_sized f l v e a (Init c) m = inr (refl, refl)
+value_sized f l v e a (Rel c inv args) m = inr (refl, refl)
+value_sized f l v e a (Acq c inv args q out) m = inr (refl, refl)
+value_sized f l v e a (RmwAcq c inv args) m = inr (refl, refl)
+value_sized f l v e a (Tok b n) m = inr (refl, refl)
+value_sized f l v e a (Auth b n) m = inr (refl, refl)
+
+value_turn : (f : Values) (l v : ℤ) → f l ≡ Some v → (P : Piece → Type 0) → Turns f P (Tells (λ x. value_by x l) (Cell l) v)
+value_turn f l v e P a x m s h = value_sized f l v e a x m
 
 -- two lists say the same
 record SaySame {X : Type 0} (o p : Option X) : Type 0 where

@@ -10,11 +10,12 @@ use Rattle.fsl_meaning.proofs.Heaps.{same_rung_is}
 use Rattle.fsl_graph.specs.declared.graph.Graph.{Graph}
 use Rattle.fsl_graph.specs.Positions.{Holder}
 use Rattle.fsl_own.specs.Owning.{Resource, Heap, Known}
-use Rattle.fsl_own.specs.Atoms.{Atom, Points, Init, Rel, Acq, RmwAcq, Tok, Auth, asked, Says, IsRight}
+use Rattle.fsl_own.specs.Atoms.{Atom, Points, Init, Rel, Acq, RmwAcq, Tok, Auth, asked, Says, IsRight, AreRight}
 use Rattle.fsl_own.proofs.Totals.{none_or_some, only_some}
 use Rattle.fsl_good.specs.Pieces.{Level, AtPlain, AtUp, AtDown, same_level, holder_of, Piece, level_at, placed, all_placed, demand_at, RightPieces, AllSay}
+use Rattle.fsl_good.proofs.Pieces.{right_says}
 use Rattle.fsl_held.specs.Heaps.{is_at, same_leave, says, knows_in, value_in}
-use Rattle.fsl_held.specs.Parts.{rung_of, is_claim_at}
+use Rattle.fsl_held.specs.Parts.{rung_of, is_claim_at, atoms_of}
 use Rattle.fsl_held.proofs.Heaps.{value_said}
 use Rattle.fsl_held.proofs.Cuts.{kind_of, size, level_of, level_is, Values, sized, part, part_if, is_placed, take_of, less, given, rest, asked_is}
 
@@ -67,7 +68,7 @@ rest_each f P Q t a d (x ∷ xs) p = each_part f P Q t x.level x.atom _ (rest f 
 
 -- ---- what is right, and what is said
 
-says_points : (k : Known) (c : ℤ) (m : ℕ) (o : Option ℤ) → 1 ≤ m → ((v : ℤ) → o ≡ Some v → k.values c ≡ Some v) → Says k (Points c m o)
+pub says_points : (k : Known) (c : ℤ) (m : ℕ) (o : Option ℤ) → 1 ≤ m → ((v : ℤ) → o ≡ Some v → k.values c ≡ Some v) → Says k (Points c m o)
 says_points k c m None l q = l
 says_points k c m (Some v) l q = (l, q v refl)
 
@@ -129,6 +130,32 @@ pub rest_right : (f : Values) (g : Graph) (done : List ℕ) (k : Known) (t : ℕ
 rest_right f g done k t q a d xs p =
     right_by g done k t (rest f a d xs) (rest_each f (RightPiece g done k t) (RightPiece g done k t) (right_turn f g done k t q) a d xs (each_right g done k t xs p))
 
+-- the same of whoever has the atoms
+abbrev HeldPiece : Graph → List ℕ → Known → Holder → Piece → Type 0
+HeldPiece g done k h x = IsRight g done k h x.atom
+
+each_held : (g : Graph) (done : List ℕ) (k : Known) (h : Holder) (xs : List Piece) → AreRight g done k h (atoms_of xs) → EachOf (HeldPiece g done k h) xs
+each_held g done k h [] p = tt
+each_held g done k h (x ∷ xs) p = (p.0, each_held g done k h xs p.1)
+
+held_by : (g : Graph) (done : List ℕ) (k : Known) (h : Holder) (xs : List Piece) → EachOf (HeldPiece g done k h) xs → AreRight g done k h (atoms_of xs)
+held_by g done k h [] p = tt
+held_by g done k h (x ∷ xs) p = (p.0, held_by g done k h xs p.1)
+
+pub given_held : (f : Values) (g : Graph) (done : List ℕ) (k : Known) (h : Holder) → AreKnown f k → (a : Level) (d : Heap) (xs : List Piece)
+    → AreRight g done k h (atoms_of xs) → AreRight g done k h (atoms_of (given f a d xs))
+given_held f g done k h q a d xs p =
+    held_by g done k h (given f a d xs) (given_each f (HeldPiece g done k h) (HeldPiece g done k h) (λ b x m s r. right_part f g done k h q x m s r) a d xs (each_held g done k h xs p))
+
+pub rest_held : (f : Values) (g : Graph) (done : List ℕ) (k : Known) (h : Holder) → AreKnown f k → (a : Level) (d : Heap) (xs : List Piece)
+    → AreRight g done k h (atoms_of xs) → AreRight g done k h (atoms_of (rest f a d xs))
+rest_held f g done k h q a d xs p =
+    held_by g done k h (rest f a d xs) (rest_each f (HeldPiece g done k h) (HeldPiece g done k h) (λ b x m s r. right_part f g done k h q x m s r) a d xs (each_held g done k h xs p))
+
+pub held_says : (g : Graph) (done : List ℕ) (k : Known) (h : Holder) (xs : List Piece) → AreRight g done k h (atoms_of xs) → AllSay k xs
+held_says g done k h [] p = tt
+held_says g done k h (x ∷ xs) p = (right_says g done k h x.atom p.0, held_says g done k h xs p.1)
+
 pub says_turn : (f : Values) (k : Known) → AreKnown f k → Turns f (SaysPiece k) (SaysPiece k)
 says_turn f k q a x m s p = says_part f k q x m s p
 
@@ -163,9 +190,9 @@ given_placed f a d (x ∷ xs) =
     (λ e. each_part f (InPlace a) (InPlace a) (placed_part f a) x.level x.atom (take_of a d x) (given f a (less a d x) xs) (same_level_is x.level (level_at a x.atom) e))
     (given_placed f a (less a d x) xs)
 
-abbrev pub atoms_of : List Piece → List Atom
-atoms_of [] = []
-atoms_of (x ∷ xs) = x.atom ∷ atoms_of xs
+pub atoms_placed : (a : Level) (ys : List Atom) → atoms_of (all_placed a ys) ≡ ys
+atoms_placed a [] = refl
+atoms_placed a (y ∷ ys) = ap (λ (zs : List Atom). y ∷ zs) (atoms_placed a ys)
 
 pub placed_again : (a : Level) (xs : List Piece) → EachOf (InPlace a) xs → all_placed a (atoms_of xs) ≡ xs
 placed_again a [] p = refl

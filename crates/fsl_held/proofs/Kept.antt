@@ -29,11 +29,11 @@ Held q = (rung : Rung) (xs : List ℤ) (n : Need) → q rung xs ≡ Some n → E
 held_as : (m n : Need) → Some m ≡ Some n → EachNeeded m.heap m.claims → EachNeeded n.heap n.claims
 held_as m n e h = subst (λ (z : Need). EachNeeded z.heap z.claims) (some_is e) h
 
-each_more : (h more : Heap) (cs : List Claim) → ((k : key) → h k ≤ more k) → EachNeeded h cs → EachNeeded more cs
+pub each_more : (h more : Heap) (cs : List Claim) → ((k : key) → h k ≤ more k) → EachNeeded h cs → EachNeeded more cs
 each_more h more [] l n = tt
 each_more h more (c ∷ cs) l n = (needs_less h more l c n.0, each_more h more cs l n.1)
 
-each_both : (h : Heap) (cs ds : List Claim) → EachNeeded h cs → EachNeeded h ds → EachNeeded h (cs ++ ds)
+pub each_both : (h : Heap) (cs ds : List Claim) → EachNeeded h cs → EachNeeded h ds → EachNeeded h (cs ++ ds)
 each_both h [] ds n m = m
 each_both h (c ∷ cs) ds n m = (n.0, each_both h cs ds n.1 m)
 

@@ -77,7 +77,9 @@ truth_of xs = record { value = value_in xs; out = λ l part. or_this (out_in xs 
 
 -- ---- what is known
 
+-- what a message that is read says is known at msg, wherever it is put
 abbrev pub is_at : Level → Rung → Bool
+is_at _ Msg = true
 is_at AtPlain Plain = true
 is_at AtUp Up = true
 is_at AtDown Down = true

@@ -6,7 +6,7 @@ use Rattle.fsl_core.specs.logic.Chunks.{same_rung}
 use Rattle.fsl_meaning.specs.Heaps.{Key, Cell, Heap, some_of, Claim, IsInit, MayWrite, MayRead, MayUpdate, Knows, Needs, Agrees}
 use Rattle.fsl_own.specs.Owning.{full}
 use Rattle.fsl_own.specs.Atoms.{Atom, Points}
-use Rattle.fsl_good.specs.Pieces.{Level, AtPlain, AtUp, AtDown, Piece, all_placed, plain, Entails, IsPossible}
+use Rattle.fsl_good.specs.Pieces.{Level, AtPlain, AtUp, AtDown, Piece, all_placed, plain, Entails, Yields, IsPossible}
 use Rattle.fsl_held.specs.Heaps.{heap_of, truth_of, ground_of, Kept}
 
 abbrev pub rung_of : Level → Rung
@@ -25,10 +25,15 @@ is_claim_at rung (MayWrite l i xs) = true
 is_claim_at rung (MayRead l i xs) = true
 is_claim_at rung (MayUpdate l i xs) = true
 
+abbrev pub atoms_of : List Piece → List Atom
+atoms_of [] = []
+atoms_of (x ∷ xs) = x.atom ∷ atoms_of xs
+
 -- d was taken out of the pieces `xs`, as atoms at a level; both sides say what was said of what they have, and what was
--- known beside it
+-- known beside it. Whoever has the atoms of the pieces, be it a message, has those of both sides
 pub record IsCut (level : Level) (d : Heap) (xs : List Piece) (ys : List Atom) (rest : List Piece) : Type 0 where
   pub gives : Entails xs (all_placed level ys ++ rest)
+  pub yields : Yields (atoms_of xs) (ys ++ atoms_of rest)
   pub taken : (k : Key) → heap_of (all_placed level ys) k ≡ d k
   pub left : (k : Key) → heap_of xs k ≡ heap_of rest k + d k
   pub agrees : Agrees (truth_of xs) (truth_of (all_placed level ys)) d

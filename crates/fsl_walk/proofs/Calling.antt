@@ -51,7 +51,6 @@ use Rattle.fsl_scoped.proofs.Parameters.{proc_fits as scope_fits}
 use Rattle.fsl_scoped.proofs.Bodies.{bodies_keep_contracts, bodies_are_declared, contracts_outside}
 use Rattle.fsl_scoped.proofs.Arguments.{starts_seen}
 use Rattle.fsl_scoped.proofs.Ensures.{ensures_seen, ensures_need_no_result}
-use Rattle.fsl_walk.specs.Covered.{covers, covers_proc}
 use Rattle.fsl_walk.specs.Stances.{AllDerived, Activation, reading, config_of, IsGood, IsGoodMove, Matches, Runs, Returns}
 use Rattle.fsl_walk.specs.Walks.{IsDerived, IsClosed, Walks}
 use Rattle.fsl_walk.proofs.Slots.{set_long, sees_same, closed_one}
@@ -65,7 +64,6 @@ pub record Sound (p : Program) (q : Proc) : Type 0 where
   pub scoped : proc_is_scoped p.procs q ≡ true
   pub fits : ProcFits p.procs q
   pub well : list_all (stmt_fits p) q.body ≡ true
-  pub covered : list_all covers q.body ≡ true
   pub derived : AllDerived (ends_of p q)
 
 all_at : {X : Type 0} (f : X → Bool) (xs : List X) (number : ℕ) (x : X) → slice_get xs number ≡ Some x → list_all f xs ≡ true → f x ≡ true
@@ -83,7 +81,6 @@ sound p number q d is =
       scoped = both.1;
       fits = scope_fits p.procs q both.1;
       well = (and_parts (asrt_fits p.invs q.post true) (list_all (stmt_fits p) q.body) contract.1).1;
-      covered = all_at covers_proc p.procs number q is d.covered;
       derived = d.each number q is;
     }
 
@@ -136,7 +133,7 @@ enters u m xs under numbers env need ok walks possible long asked known parts ma
     (bounded xs need.heap possible (left_within need.heap under (heap_of xs) parts)) in
     let landed = each_lands nowhere (λ x s. block (map (stmt_of (reading u)) q.body) 0 s (closing (asrt_of q.post) q.last)) law ok.derived in
     subst (λ (stmts : List Stmt). IsGood u m (config_of u stmts env) xs) (append-nil q.body)
-    (walks q.body scope scope 0 [] (closing (asrt_of q.post) q.last) (Contracted q need.env) xs under ok.fits.body (contracts_outside q) ok.well ok.covered
+    (walks q.body scope scope 0 [] (closing (asrt_of q.post) q.last) (Contracted q need.env) xs under ok.fits.body (contracts_outside q) ok.well
     (bodies_are_declared u.program.procs q) (λ k number. number) (contract_closed u need.env ok)
     (brace_runs u m scope (Contracted q need.env) xs under returns) returns xs need.env env landed.numbers landed.state (kept_self xs under)
     (record { mine = need.heap; fits = landed.is; parts = parts }) matches (record { long = refl; alike = λ k shared. refl }) landed.derived)
@@ -289,8 +286,7 @@ call_enters : {scope : Scope} {Q : List ℤ → Type 0} {base : List Piece} {und
     → At scope Q base under xs slots env v s
     → AllDerived (each at (call (setting_of asrt_of u.program) slot proc (map expr_of args) s) (λ x. after))
     → IsGood u m (running (record { stmts = q.body; env = padded_numbers q.slots vs; target = slot }) (frame_of u rest env ∷ u.below)) xs
-call_enters {scope = scope} {Q = Q} {base = base} {under = under} {xs = xs} {slots = slots} {env = env} {v = v} {s = s} u m after rest slot proc args at q vs walks derived is fit out count passed closed runs there d
-    =
+call_enters {scope = scope} {Q = Q} {base = base} {under = under} {xs = xs} {slots = slots} {env = env} {s = s} u m after rest slot proc args at q vs walks derived is fit out count passed closed runs there d =
     let setting = setting_of asrt_of u.program in
     let es = map expr_of args in
     let fits = there.stance.fits in

@@ -82,7 +82,7 @@ line_same a m u h g e le = omega arith
 holds_plus : (a m : Heap) → Holds a m (λ k. a k + m k)
 holds_plus a m k = line_self (a k + m k)
 
-positive : (loc : ℤ) → pos 0 <ℤ loc → (pos 1 +ℤ pos 0) ≤ℤ loc
+pub positive : (loc : ℤ) → pos 0 <ℤ loc → (pos 1 +ℤ pos 0) ≤ℤ loc
 positive (pos n) h = omega (arith, ints)
 positive (negsuc n) h = absurd (omega (arith, ints))
 

@@ -38,7 +38,6 @@ use Rattle.fsl_scoped.proofs.Lists.{get_other}
 use Rattle.fsl_scoped.proofs.Assertions.{assertions_seen}
 use Rattle.fsl_scoped.proofs.Exactly.{tests_exact}
 use Rattle.fsl_scoped.proofs.Setting.{blocks_set_their_own}
-use Rattle.fsl_walk.specs.Covered.{covers}
 use Rattle.fsl_walk.specs.Stances.{AllDerived, Activation, reading, config_of, IsGood, IsGoodMove, Matches, Runs, Returns}
 use Rattle.fsl_walk.specs.Walks.{AreDeclared, IsClosed, Walks}
 use Rattle.fsl_walk.proofs.Slots.{set_long, renewed_long, renewed_same, renewed_other, closed_renewed}
@@ -98,7 +97,6 @@ pub record Loop (u : Activation) (Q : List ℤ → Type 0) : Type 0 where
   pub scoped : (block_scoped u.program.procs body).fits (in_loop scope) ≡ true
   pub outside : scope.in_ensures ≡ false
   pub well : list_all (stmt_fits u.program) body ≡ true
-  pub covered : list_all covers body ≡ true
   pub are_declared : AreDeclared scope declared
   pub closed : IsClosed Q (all_sets (map (stmt_of (reading u)) body))
   pub start : List Piece
@@ -230,7 +228,7 @@ turns_round u m p xs ys env walks returns again head e =
     (bounded xs h head.possible (left_within h (plus p.left p.under) (heap_of xs) head.parts))) in
     let landed = each_lands p.stmt.span _ (subst rule e law) p.turns in
     walks p.body (in_loop p.scope) p.scope p.declared (p.stmt ∷ p.rest) (λ t. each p.stmt.span (give_inv (asrt_of p.inv) t) (λ y. path_ends p.stmt.span))
-    (Within u p) p.start (plus p.left p.under) p.scoped p.outside p.well p.covered p.are_declared (λ k number. number) (within_closed u p) again (within_returns u m p returns)
+    (Within u p) p.start (plus p.left p.under) p.scoped p.outside p.well p.are_declared (λ k number. number) (within_closed u p) again (within_returns u m p returns)
     xs (turn_of u p ys) env landed.numbers landed.state head.kept (record { mine = h; fits = landed.is; parts = head.parts })
     (record { long = head.matches.long; sees = head.matches.sees }) (within_turn u p ys) landed.derived
 

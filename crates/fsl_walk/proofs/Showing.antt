@@ -8,7 +8,7 @@ use Rattle.fsl_core.specs.declared.need.Need.TheVariants as need
 use Rattle.fsl_core.specs.declared.need.Reply.{Reply}
 use Rattle.fsl_core.specs.declared.need.Reply.TheVariants as reply
 use Rattle.fsl_core.specs.declared.scope.Scope.{Scope}
-use Rattle.fsl_core.specs.Moves.{Frame, Config, showing, place_reply, read_reply}
+use Rattle.fsl_core.specs.Moves.{Frame, Config, Moved, showing, place_reply, read_reply}
 use Rattle.fsl_core.specs.Scopes.{reads}
 use Rattle.fsl_core.specs.Values.{value_of}
 use Rattle.fsl_core.specs.logic.States.{State}
@@ -60,17 +60,22 @@ pub good_placed : (u : Activation) (m : ℕ) (n : Need) (l : ℤ → Label) (c :
     → IsGoodMove u m (record { need = n; answered = λ r. place_reply r (λ x. showing (l x) (c x)) }) xs
 good_placed u m n l c xs other allows = (λ e. absurd (other e), placed_shows u m n l c xs allows)
 
-read_shows : (u : Activation) (m : ℕ) (n : Need) (l : ℤ → Label) (c : ℤ → Config) (xs : List Piece) → ((x : ℤ) → Showing u m n (l x) (c x) xs)
-    → (r : Reply) (shown : Label) (next : Config) → read_reply r (λ x. showing (l x) (c x)) ≡ showing shown next → Showing u m n shown next xs
-read_shows u m n l c xs allows (reply.Read x) shown next e = shows_so u m n (l x) shown (c x) next xs e (allows x)
-read_shows u m n l c xs allows reply.Nothing shown next e = absurd (quiet e)
-read_shows u m n l c xs allows (reply.Place x) shown next e = absurd (quiet e)
-read_shows u m n l c xs allows (reply.Threads first) shown next e = absurd (quiet e)
-read_shows u m n l c xs allows (reply.Results values) shown next e = absurd (quiet e)
+read_shows : (u : Activation) (m : ℕ) (n : Need) (f : ℤ → Moved) (xs : List Piece) → ((x : ℤ) (shown : Label) (next : Config) → f x ≡ showing shown next → Showing u m n shown next xs)
+    → (r : Reply) (shown : Label) (next : Config) → read_reply r f ≡ showing shown next → Showing u m n shown next xs
+read_shows u m n f xs allows (reply.Read x) shown next e = allows x shown next e
+read_shows u m n f xs allows reply.Nothing shown next e = absurd (quiet e)
+read_shows u m n f xs allows (reply.Place x) shown next e = absurd (quiet e)
+read_shows u m n f xs allows (reply.Threads first) shown next e = absurd (quiet e)
+read_shows u m n f xs allows (reply.Results values) shown next e = absurd (quiet e)
+
+-- where the label that is shown depends on the value that is read
+pub good_answered : (u : Activation) (m : ℕ) (n : Need) (f : ℤ → Moved) (xs : List Piece) → (n ≡ need.Local → ⊥)
+    → ((x : ℤ) (shown : Label) (next : Config) → f x ≡ showing shown next → Showing u m n shown next xs) → IsGoodMove u m (record { need = n; answered = λ r. read_reply r f }) xs
+good_answered u m n f xs other allows = (λ e. absurd (other e), read_shows u m n f xs allows)
 
 pub good_read : (u : Activation) (m : ℕ) (n : Need) (l : ℤ → Label) (c : ℤ → Config) (xs : List Piece) → (n ≡ need.Local → ⊥) → ((x : ℤ) → Showing u m n (l x) (c x) xs)
     → IsGoodMove u m (record { need = n; answered = λ r. read_reply r (λ x. showing (l x) (c x)) }) xs
-good_read u m n l c xs other allows = (λ e. absurd (other e), read_shows u m n l c xs allows)
+good_read u m n l c xs other allows = good_answered u m n (λ x. showing (l x) (c x)) xs other (λ x shown next e. shows_so u m n (l x) shown (c x) next xs e (allows x))
 
 -- what the run reads is what the path has
 pub read_is : {scope : Scope} {env slots : List ℤ} (e : Expr) (x : ℤ) → Matches scope env slots → reads scope e ≡ true → value_of e env ≡ Some x → exact e slots ≡ x

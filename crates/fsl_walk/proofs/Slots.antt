@@ -21,7 +21,7 @@ get_same [] i x h = absurd (omega arith)
 get_same (y ∷ ys) zero x h = refl
 get_same (y ∷ ys) (suc i) x h = get_same ys i x (omega arith)
 
-sight_other : (xs : List Sight) (i k : ℕ) (x d : Sight) → (k ≡ i → ⊥) → get_or (slice_set xs i x) k d ≡ get_or xs k d
+pub sight_other : (xs : List Sight) (i k : ℕ) (x d : Sight) → (k ≡ i → ⊥) → get_or (slice_set xs i x) k d ≡ get_or xs k d
 sight_other [] i k x d h = refl
 sight_other (y ∷ ys) zero zero x d h = absurd (h refl)
 sight_other (y ∷ ys) zero (suc k) x d h = refl

@@ -21,7 +21,6 @@ use Rattle.fsl_meaning.specs.Branches.{Among, Lands, Lands as land, Tells, Tells
 use Rattle.fsl_good.specs.Pieces.{Piece, IsPossible}
 use Rattle.fsl_good.specs.Good.{Shifts as shift, Allows, Good}
 use Rattle.fsl_held.specs.Asked.{logic_of}
-use Rattle.fsl_walk.specs.Covered.{covers_step, covers}
 use Rattle.fsl_walk.specs.Stances.{AllDerived, Activation, config_of, IsGood, IsGoodMove}
 
 -- ---- ends that are derived
@@ -59,7 +58,7 @@ derived_among {X = X} at after (goes y t ∷ bs) x s (inl e) d =
 derived_among at after (goes y t ∷ bs) x s (inr i) d = derived_among at after bs x s i (derived_right (after y t) (each at bs after) d)
 derived_among at after (fails k ∷ bs) x s i d = absurd d
 
-none_fails : {X : Type 0} (at : Span) (after : X → Ends) (bs : Branches X) (k : _) → Among (fails k) bs → AllDerived (each at bs after) → ⊥
+pub none_fails : {X : Type 0} (at : Span) (after : X → Ends) (bs : Branches X) (k : _) → Among (fails k) bs → AllDerived (each at bs after) → ⊥
 none_fails at after [] k i d = i
 none_fails at after (goes y t ∷ bs) k (inl e) d = absurd (cc)
 none_fails at after (goes y t ∷ bs) k (inr i) d = none_fails at after bs k i (derived_right (after y t) (each at bs after) d)
@@ -116,14 +115,6 @@ stmt_folded p = fold-Stmt Bool Bool (fitting.act_step p) (λ stmt. stmt.act)
 
 pub fit_of : (p : Program) (stmt : Stmt) → stmt_fits p stmt ≡ fitting.act_step p (map-Act Act Stmt Bool Bool (act_fits p) (stmt_folded p) (out-Act stmt.act))
 fit_of p stmt = fold_out-Act Bool Bool (fitting.act_step p) (λ s. s.act) stmt.act
-
-abbrev pub act_covers : Act → Bool
-act_covers = fold-Act Bool Bool covers_step (λ stmt. stmt.act)
-
-pub cover_of : (stmt : Stmt) → covers stmt ≡ covers_step (map-Act Act Stmt Bool Bool act_covers covers (out-Act stmt.act))
-cover_of stmt =
-    fold_out-Stmt Bool Bool covers_step (λ s. s.act) stmt
-    ∙ fold_out-Act Bool Bool covers_step (λ s. s.act) stmt.act
 
 -- ---- moves that are good
 

@@ -1,4 +1,3 @@
-pub mod Covered
 pub mod Laws
 pub mod Stances
 pub mod Walks

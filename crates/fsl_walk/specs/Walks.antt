@@ -22,13 +22,11 @@ use Rattle.fsl_lin.specs.Numbers.{Numbers}
 use Rattle.fsl_meaning.specs.Heaps.{Heap}
 use Rattle.fsl_good.specs.Pieces.{Piece, IsPossible}
 use Rattle.fsl_held.specs.Heaps.{Kept}
-use Rattle.fsl_walk.specs.Covered.{covers, covers_program}
 use Rattle.fsl_walk.specs.Stances.{AllDerived, Activation, reading, config_of, IsGood, IsGoodMove, Stance, Matches, Runs, Returns}
 
 -- every path of every procedure is derived
 pub record IsDerived (p : Program) : Type 0 where
   pub well : is_well_formed p ≡ true
-  pub covered : covers_program p ≡ true
   pub each : (number : ℕ) (q : Proc) → slice_get p.procs number ≡ Some q → AllDerived (ends_of p q)
 
 -- each local variable is among the first n, so a loop that sets it renews it
@@ -47,7 +45,7 @@ IsClosed Q sets = (slots : List ℤ) (slot : ℕ) (x : ℤ) → list_any (λ s. 
 abbrev pub Walks : Activation → ℕ → Type 1
 Walks u m =
     (stmts : List Stmt) (scope behind : Scope) (declared : ℕ) (rest : List Stmt) (after : Ends) (Q : List ℤ → Type 0) (base : List Piece) (under : Heap)
-    → (block_scoped u.program.procs stmts).fits scope ≡ true → scope.in_ensures ≡ false → list_all (stmt_fits u.program) stmts ≡ true → list_all covers stmts ≡ true
+    → (block_scoped u.program.procs stmts).fits scope ≡ true → scope.in_ensures ≡ false → list_all (stmt_fits u.program) stmts ≡ true
     → AreDeclared scope declared → SeesMore behind scope → IsClosed Q (all_sets (map (stmt_of (reading u)) stmts))
     → Runs u m after rest behind Q base under → Returns u m Q base under
     → (xs : List Piece) (slots env : List ℤ) (v : Numbers) (s : State) → Kept base under xs → Stance xs under slots v s → Matches scope env slots → Q slots

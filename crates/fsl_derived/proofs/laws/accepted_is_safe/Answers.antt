@@ -1,5 +1,5 @@
-use Rattle.fsl_derived.proofs.Safety.{cells_are_safe}
+use Rattle.fsl_derived.proofs.Safety.{accepted_are_safe}
 use Rattle.fsl_derived.proofs.laws.accepted_is_safe.Goals as goal
 
 pub returns : goal.returns
-returns c = cells_are_safe
+returns c = accepted_are_safe
