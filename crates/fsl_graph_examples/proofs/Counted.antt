@@ -1,13 +1,11 @@
 -- The counter's execution: move by move, and by tests of its graph.
-use Rattle.std.proofs.Common.{◌≡◌, ◌<◌, ℕ, zero, suc, Bool, true, false, ◌&&◌, nat_lt, inl, inr, List, [], ◌∷◌, drop, Option, Some, None, is_some, slice_get, ℤ, ◌<ℤ◌, ◌+ℤ◌, pos, ◌⊎◌, refl, sym, ap, subst, ◌∙◌, arith, int_eq}
+use Rattle.std.proofs.Common.{◌≡◌, ℕ, zero, suc, Bool, true, false, ◌&&◌, nat_lt, inl, inr, List, [], ◌∷◌, drop, Option, Some, None, is_some, ℤ, ◌<ℤ◌, ◌+ℤ◌, pos, ◌⊎◌, refl, sym, ap, subst, ◌∙◌, arith, int_eq}
 use Rattle.std.proofs.lemmas.Bool.{and_parts, ltb-true}
 use Rattle.std.proofs.lemmas.Int.{ints}
 use Rattle.std.proofs.lemmas.Bool.Decides.{Decides-int_eq}
 use Rattle.fsl_core.specs.declared.act.Act.TheBlock.{shown-the_row-Stmt-0}
 use Rattle.fsl_core.specs.declared.act.Act.TheViews.{roll-Act, out-Act}
 use Rattle.fsl_core.specs.declared.act.Called.{Called}
-use Rattle.fsl_core.specs.declared.expr.Expr.TheOpen.{Expr-F}
-use Rattle.fsl_core.specs.declared.expr.Expr.TheFolds.{fold-roll-Expr}
 use Rattle.fsl_core.specs.declared.label.Ended.{Ended}
 use Rattle.fsl_core.specs.declared.label.Label.{Label}
 use Rattle.fsl_core.specs.declared.label.Label.TheVariants as label
@@ -16,19 +14,16 @@ use Rattle.fsl_core.specs.declared.mode.AllocKind.TheVariants as kind
 use Rattle.fsl_core.specs.declared.mode.Mode.TheVariants as mode
 use Rattle.fsl_core.specs.declared.need.Need.{Need}
 use Rattle.fsl_core.specs.declared.need.Need.TheVariants as need
-use Rattle.fsl_core.specs.declared.need.Reply.{Reply}
 use Rattle.fsl_core.specs.declared.need.Reply.TheVariants as reply
 use Rattle.fsl_core.specs.declared.need.RmwOp.TheVariants as op
 use Rattle.fsl_core.specs.declared.need.Started.{Started}
-use Rattle.fsl_core.specs.Programs.{Program}
-use Rattle.fsl_core.specs.Values.{value_of, value_step, part_step, Value, in_range, with_value}
-use Rattle.fsl_core.specs.Moves.{Config, running, joining, returned, showing, moved, need_of, start_of, Move, move_of, started_of, added, read_reply, given, forking}
+use Rattle.fsl_core.specs.Values.{value_of, in_range, with_value}
+use Rattle.fsl_core.specs.Moves.{Config, running, joining, returned, showing, moved, need_of, start_of, Move, move_of, started_of, added, read_reply, forking}
 use Rattle.fsl_graph.specs.declared.event.Event.{Event}
 use Rattle.fsl_graph.specs.declared.graph.Thread.{Thread}
 use Rattle.fsl_graph.specs.Events.{Is, read_by, Touch}
-use Rattle.fsl_graph.specs.Sequenced.{In}
 use Rattle.fsl_graph.specs.Graphs.{does, reads, load, store}
-use Rattle.fsl_graph.specs.Execution.{Runs, Answers, IsThread, Starts, Awaits, Allocates, events_of}
+use Rattle.fsl_graph.specs.Execution.{Runs, Answers, IsThread, Allocates, events_of}
 use Rattle.fsl_graph.specs.Execution.Runs.{stands, shows}
 use Rattle.fsl_graph.specs.Safe.{access_by, Access, Accesses, IsAccess, IsAllocated, IsSafe}
 use Rattle.fsl_graph.proofs.Every.{every, every_at}
@@ -37,31 +32,10 @@ use Rattle.fsl_graph.proofs.Threads.{one_event}
 use Rattle.fsl_judged.specs.Words.{num, var, thread as calls}
 use Rattle.fsl_graph_examples.specs.Counted.{CountedIsExecution}
 use Rattle.fsl_graph_examples.specs.Executions.{counting, counting_from_0, runs, counted, all_returned}
-use Rattle.fsl_graph_examples.proofs.Testing.{is_fork, is_join, is_alloc, none, none_is, only_is}
+use Rattle.fsl_graph_examples.proofs.Moving.{value_var, value_num, given_one, given_two, shows_by, asks_by}
+use Rattle.fsl_graph_examples.proofs.Testing.{is_alloc, none, none_is, only_is}
+use Rattle.fsl_graph_examples.proofs.Pairs.{no_zero, starts_two, forks_two, joins_two}
 use Rattle.fsl_graph_examples.proofs.Runs.{run_of}
-
--- ---- values
-
-value_var : (slot : ℕ) (env : List ℤ) → value_of (var slot) env ≡ slice_get env slot
-value_var slot env = ap (λ (f : Value). f env) (fold-roll-Expr Value (Bool × Value) value_step part_step (Expr-F.Var slot))
-
-value_num : (n : ℕ) (env : List ℤ) → value_of (num n) env ≡ in_range (pos n)
-value_num n env = ap (λ (f : Value). f env) (fold-roll-Expr Value (Bool × Value) value_step part_step (Expr-F.Const (pos n)))
-
--- ---- moves whose expressions have values
-
-given_one : (o : Option ℤ) (l : ℤ) (k : ℤ → Move) → o ≡ Some l → given o k ≡ k l
-given_one o l k h = ap (λ (z : Option ℤ). given z k) h
-
-given_two : (o p : Option ℤ) (l v : ℤ) (k : ℤ → ℤ → Move) → o ≡ Some l → p ≡ Some v → given o (λ x. given p (λ y. k x y)) ≡ k l v
-given_two o p l v k h i = ap (λ (z : Option ℤ). given z (λ x. given p (λ y. k x y))) h ∙ ap (λ (z : Option ℤ). given z (λ y. k l y)) i
-
--- what a move shows and asks, by the move
-shows_by : (p : Program) (c : Config) (m : Move) (r : Reply) → move_of p c ≡ m → moved p c r ≡ m.answered r
-shows_by p c m r h = ap (λ (z : Move). z.answered r) h
-
-asks_by : (p : Program) (c : Config) (m : Move) → move_of p c ≡ m → need_of p c ≡ m.need
-asks_by p c m h = ap (λ (z : Move). z.need) h
 
 -- ---- the first thread
 
@@ -170,45 +144,6 @@ threads_move (suc zero) thread is = run_of counting counted (3 ∷ 4 ∷ []) (re
 threads_move (suc (suc zero)) thread is = run_of counting counted (5 ∷ 6 ∷ []) (returned (pos 0)) 2 (runs 1 (1 ∷ []) 2) thread refl is sees
 threads_move (suc (suc (suc t))) thread is = absurd (let f : None ≡ Some thread = is in cc)
 
-the_fork : Event
-the_fork = does 0 (label.Fork (1 ∷ 2 ∷ []))
-
-starts_two : (e t : ℕ) → Starts counted e t → (e ≡ 2) × In t (1 ∷ 2 ∷ [])
-unfolding the_fork
-starts_two e t s =
-    let at : e ≡ 2 = only_is is_fork 2 counted e s.event refl s.is (ap is_fork s.forks) in
-    let same : the_fork ≡ s.event = one_event counted 2 the_fork s.event refl (subst (λ (k : ℕ). Is counted k s.event) at s.is) in
-    let f : label.Fork (1 ∷ 2 ∷ []) ≡ label.Fork s.children = ap (λ (x : Event). x.label) same ∙ s.forks in
-    let k : 1 ∷ 2 ∷ [] ≡ s.children = cc in
-    (at, subst (λ (xs : List ℕ). In t xs) (sym k) s.child)
-
-forks : (t : ℕ) → 0 < t → t < 3 → (e : ℕ) × Starts counted e t
-forks t a b = (2, record { event = does 0 (label.Fork (1 ∷ 2 ∷ [])); is = refl; children = 1 ∷ 2 ∷ []; forks = refl; child = one_or_two t a b })
-  where
-    one_or_two : (t : ℕ) → 0 < t → t < 3 → In t (1 ∷ 2 ∷ [])
-    one_or_two zero a b = absurd (omega (arith, a))
-    one_or_two (suc zero) a b = inl refl
-    one_or_two (suc (suc zero)) a b = inr (inl refl)
-    one_or_two (suc (suc (suc t))) a b = absurd (omega (arith, b))
-
-ended_with : (k : ℕ) (r : Ended) → slice_get both_ended k ≡ Some r → (r.thread < 3) × (r.value ≡ pos 0)
-unfolding both_ended
-ended_with zero r h = let f : Some (record { thread = 1; value = pos 0 }) ≡ Some r = h in let same : record { thread = 1; value = pos 0 } ≡ r = cc in
-    (subst (λ (z : Ended). z.thread < 3) same (omega arith), subst (λ (z : Ended). z.value ≡ pos 0) same refl)
-ended_with (suc zero) r h = let f : Some (record { thread = 2; value = pos 0 }) ≡ Some r = h in let same : record { thread = 2; value = pos 0 } ≡ r = cc in
-    (subst (λ (z : Ended). z.thread < 3) same (omega arith), subst (λ (z : Ended). z.value ≡ pos 0) same refl)
-ended_with (suc (suc k)) r h = absurd (let f : None ≡ Some r = h in cc)
-
-joins : (e t : ℕ) (v : ℤ) → Awaits counted e t v → (t < 3) × (returned (pos 0) ≡ returned v)
-unfolding both_ended
-joins e t v a =
-    let at : e ≡ 7 = only_is is_join 7 counted e a.event refl a.is (ap is_join a.joins) in
-    let same : does 0 (label.Join both_ended) ≡ a.event = one_event counted 7 (does 0 (label.Join both_ended)) a.event refl (subst (λ (k : ℕ). Is counted k a.event) at a.is) in
-    let f : label.Join both_ended ≡ label.Join a.results = ap (λ (x : Event). x.label) same ∙ a.joins in
-    let k : both_ended ≡ a.results = cc in
-    let r = ended_with a.entry a.ended (subst (λ (xs : List Ended). slice_get xs a.entry ≡ Some a.ended) (sym k) a.among) in
-    (subst (λ (n : ℕ). n < 3) a.thread r.0, ap returned (sym r.1 ∙ a.value))
-
 allocates_at : (e : ℕ) (k : AllocKind) (l : ℤ) → Allocates counted e k l → (e ≡ 0) × (kind.Rmw ≡ k) × (pos 1 ≡ l)
 allocates_at e k l a =
     let at : e ≡ 0 = only_is is_alloc 0 counted e a.event refl a.is (ap is_alloc a.allocates) in
@@ -284,12 +219,12 @@ counted_is_execution =
     record {
       execution = record {
         main = (runs 2 [] 5, refl, refl, refl);
-        forked = forks;
-        first = λ e s. no_zero (starts_two e 0 s).1;
-        once = λ d e t s u. (starts_two d t s).0 ∙ sym (starts_two e t u).0;
+        forked = forks_two counted 2 refl;
+        first = λ e s. no_zero (starts_two counted 2 refl refl e 0 s).1;
+        once = λ d e t s u. (starts_two counted 2 refl refl d t s).0 ∙ sym (starts_two counted 2 refl refl e t u).0;
         known = λ e x is. ltb-true x.thread 3 (every_at (λ e (x : Event). nat_lt x.thread 3) e counted.events x threads_known is);
         moves = threads_move;
-        joined = joins;
+        joined = joins_two counted 7 refl refl;
         positive = λ e k l a. subst (λ (n : ℤ). pos 0 <ℤ n) (allocates_at e k l a).2 (omega (arith, ints));
         distinct = λ d e j k l a b. (allocates_at d j l a).0 ∙ sym (allocates_at e k l b).0;
       };
@@ -297,8 +232,3 @@ counted_is_execution =
       acyclic = p.1;
       safe = is_safe;
     }
-  where
-    no_zero : In 0 (1 ∷ 2 ∷ []) → ⊥
-    no_zero (inl e) = absurd (omega (arith, e))
-    no_zero (inr (inl e)) = absurd (omega (arith, e))
-    no_zero (inr (inr i)) = elim i [ ]

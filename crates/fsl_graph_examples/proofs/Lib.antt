@@ -1,4 +1,10 @@
 pub mod Testing
 pub mod Runs
+pub mod Moving
+pub mod Formed
+pub mod Pairs
 pub mod Counted
 pub mod Alone
+pub mod TakingWell
+pub mod TakingAccepted
+pub mod Taken

@@ -1,3 +1,4 @@
 pub mod Executions
 pub mod Counted
 pub mod Alone
+pub mod Taking
