@@ -309,11 +309,13 @@ joined_up asks g done k w t e s l on kept joins mine rest atoms meets shares par
 both_told : (g : Graph) (done : List ℕ) (k : Known) (w : World) (t : ℕ) (h : Holder) (pool : List Atom) (xs : List Piece) (message : List Atom) (thread : List Piece) → Told pool xs message thread
     → Holds g done k w h pool → Fits g done k w t xs → Fits g done k w t thread × Holds g done k w h message
 both_told g done k w t h pool xs message thread told held f =
-    let said = told.right g done k h t held.right f.right in
-    (record { enough = λ a r. let x = told.of_thread a r in let y = f.enough a r in omega arith; right = said.1 }, record {
-      enough = λ r. let x = told.of_message r in let y = held.enough r in omega arith;
-      right = said.0;
-    })
+    let said = told.right g done k h t held.right f.right in (
+      record { enough = λ a r. let x = told.of_thread a r in let y = f.enough a r in omega arith; right = said.1 },
+      record {
+        enough = λ r. let x = told.of_message r in let y = held.enough r in omega arith;
+        right = said.0;
+      },
+    )
 
 pub pass_on : (asks : Meaning) (g : Graph) (done : List ℕ) (k : Known) (w : World) (t e s : ℕ) (m : Mode) (new : ℤ) (inv : ℕ) (args : List ℤ) (K : List Piece → Type 0) (pool : List Atom) (zs : List Piece)
     → Both g done k t e s m → Ground asks g done (e ∷ []) k w → Fits g done k w t zs → Holds g done k w (holder.Message s 0) pool → (p : Passes asks m new inv args K pool zs)

@@ -453,8 +453,12 @@ loads_value {scope = scope} {Q = Q} {under = under} {xs = xs} {slots = slots} {e
     (sees_same scope env slots slot sight.Local y here.matches) (closed_one Q slots slot y closed here.holds) set_to.derived)
     xs landed.numbers t
     (record {
-      possible = here.possible; kept = kept_self xs under; stance = record { mine = mine; fits = landed.is.0; parts = here.stance.parts };
-      place = means_more landed.grows a_is; symbol = landed.is.1 })
+      possible = here.possible;
+      kept = kept_self xs under;
+      stance = record { mine = mine; fits = landed.is.0; parts = here.stance.parts };
+      place = means_more landed.grows a_is;
+      symbol = landed.is.1;
+    })
     (subst (λ (g : Rung). AllDerived (each at (gain_each q g a d places t) (λ x r. each at (set slot d r) (λ z. after)))) (sym (gaining_rung md)) gains)
 
 pub atomic_load_moves : {scope : Scope} {Q : List ℤ → Type 0} {base : List Piece} {under : Heap} {xs : List Piece} {slots env : List ℤ} {v : Numbers} {s : State}

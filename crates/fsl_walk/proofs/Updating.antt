@@ -149,8 +149,8 @@ exchange_moves {xs = xs} {slots = slots} {env = env} u m after stmt rest slot md
     let next = λ (x : ℤ). config_of u rest (slice_set env slot x) in
     let moves : ℤ → ℤ → Move = λ loc y. record { need = need.Rmw md (reading_mode md) loc (op.Swap y); answered = λ r. read_reply r (λ x. showing (label.Rmw md loc x y) (next x)) } in
     let shows : IsGoodMove u m (moves place new) xs =
-        good_read u m (need.Rmw md (reading_mode md) place (op.Swap new)) (λ x. label.Rmw md place x new) next xs (λ n. absurd (cc))
-        (λ x. (update_atomic md updates, swap_shows u m after rest slot md e f steps at well closed runs here d x)) in
+    good_read u m (need.Rmw md (reading_mode md) place (op.Swap new)) (λ x. label.Rmw md place x new) next xs (λ n. absurd (cc))
+    (λ x. (update_atomic md updates, swap_shows u m after rest slot md e f steps at well closed runs here d x)) in
     good_given u m (value_of e env) (λ loc. given (value_of f env) (moves loc)) xs (λ loc is_loc.
     good_given u m (value_of f env) (moves loc) xs (λ y is.
     subst (λ (l : ℤ). IsGoodMove u m (moves l y) xs) (read_is e loc here.matches reads_e is_loc)
@@ -175,10 +175,12 @@ add_shows {xs = xs} {slots = slots} {env = env} {v = v} {s = s} u m n after rest
     let next = config_of u rest (slice_set env slot x) in
     let k = told_by at (λ z. after) _ (add_tells (setting_of asrt_of u.program) slot md e f (map (step_of expr_of) steps) fits) d in
     let dealt = dealt_by_leave xs place k.update_inv k.update_args here.possible k.may_update in
-    shows_so u m n (label.Rmw md place x y) shown next c xs is (atomic,
-    replaced u m next after md steps s.next v x y (goes_on u rest (slice_set env slot x)) well here.possible here.stance.parts k
-    (λ read more reads. each_lands at (λ z. after) (add_fits u.program read slot md e f steps x y more dealt sum reads fits) d)
-    (reads_on u m after rest slot x closed runs here))
+    shows_so u m n (label.Rmw md place x y) shown next c xs is (
+      atomic,
+      replaced u m next after md steps s.next v x y (goes_on u rest (slice_set env slot x)) well here.possible here.stance.parts k
+          (λ read more reads. each_lands at (λ z. after) (add_fits u.program read slot md e f steps x y more dealt sum reads fits) d)
+          (reads_on u m after rest slot x closed runs here),
+    )
 add_shows {xs = xs} {slots = slots} u m n after rest slot md e f steps at atomic well closed runs here d x None sum shown c is =
     let place = exact e slots in
     let k = told_by at (λ z. after) _ (add_tells (setting_of asrt_of u.program) slot md e f (map (step_of expr_of) steps) here.stance.fits) d in
@@ -196,8 +198,8 @@ add_moves {xs = xs} {slots = slots} {env = env} u m after stmt rest slot md e f 
     let moves : ℤ → ℤ → Move = λ loc y. record { need = need.Rmw md (reading_mode md) loc (op.Add y); answered = λ r. read_reply r (λ x. added md loc x (in_range (x +ℤ y)) (next x)) } in
     let asks = need.Rmw md (reading_mode md) place (op.Add more) in
     let shows : IsGoodMove u m (moves place more) xs =
-        good_answered u m asks (λ x. added md place x (in_range (x +ℤ more)) (next x)) xs (λ n. absurd (cc))
-        (λ x shown c is. add_shows u m asks after rest slot md e f steps at (update_atomic md updates) well closed runs here d x (in_range (x +ℤ more)) refl shown c is) in
+    good_answered u m asks (λ x. added md place x (in_range (x +ℤ more)) (next x)) xs (λ n. absurd (cc))
+    (λ x shown c is. add_shows u m asks after rest slot md e f steps at (update_atomic md updates) well closed runs here d x (in_range (x +ℤ more)) refl shown c is) in
     good_given u m (value_of e env) (λ loc. given (value_of f env) (moves loc)) xs (λ loc is_loc.
     good_given u m (value_of f env) (moves loc) xs (λ y is.
     subst (λ (l : ℤ). IsGoodMove u m (moves l y) xs) (read_is e loc here.matches reads_e is_loc)
@@ -222,12 +224,14 @@ cas_shows {xs = xs} {slots = slots} {env = env} {v = v} {s = s} u m n after rest
     let mine = here.stance.mine in
     let k = told_by at (λ z. after) _ (cas_tells (setting_of asrt_of p) slot md e old new (map (step_of expr_of) steps) fits) d in
     let dealt = dealt_by_leave xs place k.update_inv k.update_args here.possible k.may_update in
-    shows_so u m n (label.Rmw md place x y) shown next c xs is (atomic,
-    replaced u m next after md steps s.next v x y (goes_on u rest (slice_set env slot x)) well here.possible here.stance.parts k
-    (λ read more reads.
-    subst (λ (b : Bool). Landed s.next v (λ (z : Unit {0}) t w. Compares b (ground_of xs) read md steps slots (parts_in p k.update_inv k.update_args y) mine more (slice_set slots slot x) t w) (λ z. after)) same
-    (each_lands at (λ z. after) (cas_fits p read slot md e old new steps x more dealt (λ found. reads) fits) d))
-    (reads_on u m after rest slot x closed runs here))
+    shows_so u m n (label.Rmw md place x y) shown next c xs is (
+      atomic,
+      replaced u m next after md steps s.next v x y (goes_on u rest (slice_set env slot x)) well here.possible here.stance.parts k
+          (λ read more reads.
+          subst (λ (b : Bool). Landed s.next v (λ (z : Unit {0}) t w. Compares b (ground_of xs) read md steps slots (parts_in p k.update_inv k.update_args y) mine more (slice_set slots slot x) t w) (λ z. after)) same
+          (each_lands at (λ z. after) (cas_fits p read slot md e old new steps x more dealt (λ found. reads) fits) d))
+          (reads_on u m after rest slot x closed runs here),
+    )
 cas_shows {xs = xs} {slots = slots} {env = env} {v = v} {s = s} u m n after rest slot md miss e old new steps at atomic misses well closed runs here d x false other shown c is =
     let p = u.program in
     let g = ground_of xs in
@@ -238,7 +242,7 @@ cas_shows {xs = xs} {slots = slots} {env = env} {v = v} {s = s} u m n after rest
     let k = told_by at (λ z. after) _ (cas_tells (setting_of asrt_of p) slot md e old new (map (step_of expr_of) steps) fits) d in
     let dealt = dealt_by_leave xs place k.update_inv k.update_args here.possible k.may_update in
     let missed = subst (λ (b : Bool). Landed s.next v (λ (z : Unit {0}) t w. Compares b g g md steps slots (parts_in p k.update_inv k.update_args (exact new slots)) mine mine (slice_set slots slot x) t w)
-        (λ z. after)) other (each_lands at (λ z. after) (cas_fits p g slot md e old new steps x mine dealt (λ found. absurd (let f : false ≡ true = sym other ∙ found in cc)) fits) d) in
+    (λ z. after)) other (each_lands at (λ z. after) (cas_fits p g slot md e old new steps x mine dealt (λ found. absurd (let f : false ≡ true = sym other ∙ found in cc)) fits) d) in
     shows_so u m n (label.Load miss place x) shown next c xs is (only_reads u m n next miss place x xs misses k
     (reads_on u m after rest slot x closed runs here xs missed.numbers missed.state (kept_self xs _)
     (record { mine = mine; fits = missed.is; parts = here.stance.parts }) missed.derived))
@@ -258,8 +262,8 @@ cas_moves {xs = xs} {slots = slots} {env = env} u m after stmt rest slot md miss
     let moves : ℤ → ℤ → ℤ → Move = λ loc o z. record { need = need.Rmw md miss loc (op.Cas o z); answered = λ r. read_reply r (λ x. exchanged md miss loc o z x (next x)) } in
     let asks = need.Rmw md miss place (op.Cas expected y) in
     let shows : IsGoodMove u m (moves place expected y) xs =
-        good_answered u m asks (λ x. exchanged md miss place expected y x (next x)) xs (λ n. absurd (cc))
-        (λ x shown c is. cas_shows u m asks after rest slot md miss e old new steps at (update_atomic md updates) (failure_atomic miss fails) well closed runs here d x (int_eq x expected) refl shown c is) in
+    good_answered u m asks (λ x. exchanged md miss place expected y x (next x)) xs (λ n. absurd (cc))
+    (λ x shown c is. cas_shows u m asks after rest slot md miss e old new steps at (update_atomic md updates) (failure_atomic miss fails) well closed runs here d x (int_eq x expected) refl shown c is) in
     good_given u m (value_of e env) (λ loc. given (value_of old env) (λ o. given (value_of new env) (moves loc o))) xs (λ loc is_loc.
     good_given u m (value_of old env) (λ o. given (value_of new env) (moves loc o)) xs (λ o is_old.
     good_given u m (value_of new env) (moves loc o) xs (λ z is.
