@@ -1,0 +1,9 @@
+pub mod ViewsLemmas
+pub mod HistoryLemmas
+pub mod ShownLemmas
+pub mod MessagesLemmas
+pub mod EdgesLemmas
+pub mod ConsistentLemmas
+pub mod BoundsLemmas
+pub mod RealLemmas
+pub mod GrowthLemmas
