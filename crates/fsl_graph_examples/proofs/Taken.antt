@@ -96,14 +96,14 @@ fork_is : move_of taking (main_at 3) ≡ fork_move
 unfolding out-Act roll-Act denote.Hole.Carrier.out denote.Hole.Carrier.roll denote.Hole.Carrier.shown denote.Hole.Carrier.hidden shown-the_row-Stmt-0 main_at fork_move waiting
 fork_is = ap (λ (o : Option (List Started)). forking o (λ first. joining first 2 (record { stmts = []; env = pos 1 ∷ pos 2 ∷ []; target = None }) [])) calls_start
 
-main_runs : Runs taking taken (start_of taking 2 []) 6 (0 ∷ 1 ∷ 2 ∷ 3 ∷ 10 ∷ 11 ∷ []) (returned (pos 0))
+main_runs : Runs taking taken (start_of taking 2 []) 6 (0 ∷ 1 ∷ 2 ∷ 3 ∷ 11 ∷ 12 ∷ []) (returned (pos 0))
 unfolding store_move fork_move both_started waiting
 main_runs =
     shows (does 0 (label.Alloc kind.Na (pos 1))) refl cell_shows (subst (λ (n : Need). Answers taken n (label.Alloc kind.Na (pos 1))) (sym cell_asks) tt)
     (shows (does 0 (label.Alloc kind.Rmw (pos 2))) refl box_shows (subst (λ (n : Need). Answers taken n (label.Alloc kind.Rmw (pos 2))) (sym box_asks) tt)
-    (tells_by taking taken (main_at 2) (main_at 3) (returned (pos 0)) store_move 2 3 (3 ∷ 10 ∷ 11 ∷ []) (does 0 (store mode.Rel 2 0)) refl store_is refl tt
-    (tells_by taking taken (main_at 3) (waiting 1) (returned (pos 0)) fork_move 3 2 (10 ∷ 11 ∷ []) (does 0 (label.Fork (1 ∷ 2 ∷ []))) refl fork_is refl
-    ((runs 0 (2 ∷ 1 ∷ []) 3, refl, refl, refl), ((runs 1 (2 ∷ 1 ∷ []) 4, refl, refl, refl), tt))
+    (tells_by taking taken (main_at 2) (main_at 3) (returned (pos 0)) store_move 2 3 (3 ∷ 11 ∷ 12 ∷ []) (does 0 (store mode.Rel 2 0)) refl store_is refl tt
+    (tells_by taking taken (main_at 3) (waiting 1) (returned (pos 0)) fork_move 3 2 (11 ∷ 12 ∷ []) (does 0 (label.Fork (1 ∷ 2 ∷ []))) refl fork_is refl
+    ((runs 0 (2 ∷ 1 ∷ []) 3, refl, refl, refl), ((runs 1 (2 ∷ 1 ∷ []) 5, refl, refl, refl), tt))
     (shows (does 0 (label.Join (record { thread = 1; value = pos 0 } ∷ record { thread = 2; value = pos 0 } ∷ []))) refl refl refl
     (shows (does 0 (label.End (pos 0))) refl refl tt stands)))))
 
@@ -166,7 +166,7 @@ if_is =
 look_move : Move
 look_move = record {
   need = need.Load mode.Na (pos 1);
-  answered = λ r. read_reply r (λ v. showing (label.Load mode.Na (pos 1) v) (take_at [] (pos 1) v));
+  answered = λ r. read_reply r (λ v. showing (label.Load mode.Na (pos 1) v) (take_at (drop 1 looking) (pos 1) v));
 }
 
 look_is : move_of taking (take_at looking (pos 1) (pos 0)) ≡ look_move
@@ -175,22 +175,33 @@ look_is =
     let env = pos 2 ∷ pos 1 ∷ pos 1 ∷ pos 0 ∷ [] in
     given_one (value_of (var 1) env) (pos 1) _ (value_var 1 env)
 
-takes : Runs taking taken (start_of taking 1 (pos 2 ∷ pos 1 ∷ [])) 4 (7 ∷ 8 ∷ 9 ∷ []) (returned (pos 0))
-unfolding swap_move look_move take_at
+drop_move : Move
+drop_move = record { need = need.Free (pos 1); answered = λ r. showing (label.Free (pos 1)) (take_at [] (pos 1) (pos 7)) }
+
+drop_is : move_of taking (take_at (drop 1 looking) (pos 1) (pos 7)) ≡ drop_move
+unfolding out-Act roll-Act denote.Hole.Carrier.out denote.Hole.Carrier.roll denote.Hole.Carrier.shown denote.Hole.Carrier.hidden shown-the_row-Stmt-0 take_at drop_move
+drop_is =
+    let env = pos 2 ∷ pos 1 ∷ pos 1 ∷ pos 7 ∷ [] in
+    given_one (value_of (var 1) env) (pos 1) _ (value_var 1 env)
+
+takes : Runs taking taken (start_of taking 1 (pos 2 ∷ pos 1 ∷ [])) 5 (7 ∷ 8 ∷ 9 ∷ 10 ∷ []) (returned (pos 0))
+unfolding swap_move look_move drop_move take_at
 takes =
-    tells_by taking taken (take_at emptying (pos 0) (pos 0)) (take_at (drop 1 emptying) (pos 1) (pos 0)) (returned (pos 0)) swap_move 7 3 (8 ∷ 9 ∷ [])
+    tells_by taking taken (take_at emptying (pos 0) (pos 0)) (take_at (drop 1 emptying) (pos 1) (pos 0)) (returned (pos 0)) swap_move 7 4 (8 ∷ 9 ∷ 10 ∷ [])
     (reads 2 (label.Rmw mode.Acq (pos 2) (pos 1) (pos 0)) 5) refl swap_is refl tt
-    (goes_by taking taken (take_at (drop 1 emptying) (pos 1) (pos 0)) (take_at looking (pos 1) (pos 0)) (returned (pos 0)) 2 (8 ∷ 9 ∷ []) if_is
-    (tells_by taking taken (take_at looking (pos 1) (pos 0)) (take_at [] (pos 1) (pos 7)) (returned (pos 0)) look_move 8 1 (9 ∷ [])
+    (goes_by taking taken (take_at (drop 1 emptying) (pos 1) (pos 0)) (take_at looking (pos 1) (pos 0)) (returned (pos 0)) 3 (8 ∷ 9 ∷ 10 ∷ []) if_is
+    (tells_by taking taken (take_at looking (pos 1) (pos 0)) (take_at (drop 1 looking) (pos 1) (pos 7)) (returned (pos 0)) look_move 8 2 (9 ∷ 10 ∷ [])
     (reads 2 (load mode.Na 1 7) 4) refl look_is refl tt
-    (shows (does 2 (label.End (pos 0))) refl refl tt stands)))
+    (tells_by taking taken (take_at (drop 1 looking) (pos 1) (pos 7)) (take_at [] (pos 1) (pos 7)) (returned (pos 0)) drop_move 9 1 (10 ∷ [])
+    (does 2 (label.Free (pos 1))) refl drop_is refl tt
+    (shows (does 2 (label.End (pos 0))) refl refl tt stands))))
 
 -- ---- the execution
 
 threads_move : (t : ℕ) (thread : Thread) → IsThread taken t thread → Runs taking taken (start_of taking thread.proc thread.args) thread.moves (events_of taken t) (all_returned t)
-threads_move zero thread is = run_of taking taken (0 ∷ 1 ∷ 2 ∷ 3 ∷ 10 ∷ 11 ∷ []) (returned (pos 0)) 0 (runs 2 [] 6) thread refl is main_runs
+threads_move zero thread is = run_of taking taken (0 ∷ 1 ∷ 2 ∷ 3 ∷ 11 ∷ 12 ∷ []) (returned (pos 0)) 0 (runs 2 [] 6) thread refl is main_runs
 threads_move (suc zero) thread is = run_of taking taken (4 ∷ 5 ∷ 6 ∷ []) (returned (pos 0)) 1 (runs 0 (2 ∷ 1 ∷ []) 3) thread refl is gives
-threads_move (suc (suc zero)) thread is = run_of taking taken (7 ∷ 8 ∷ 9 ∷ []) (returned (pos 0)) 2 (runs 1 (2 ∷ 1 ∷ []) 4) thread refl is takes
+threads_move (suc (suc zero)) thread is = run_of taking taken (7 ∷ 8 ∷ 9 ∷ 10 ∷ []) (returned (pos 0)) 2 (runs 1 (2 ∷ 1 ∷ []) 5) thread refl is takes
 threads_move (suc (suc (suc t))) thread is = absurd (let f : None ≡ Some thread = is in cc)
 
 threads_known : every (λ e (x : Event). nat_lt x.thread 3) 0 taken.events ≡ true
@@ -222,7 +233,7 @@ is_execution = record {
   once = λ d e t s u. (starts_two taken 3 refl refl d t s).0 ∙ sym (starts_two taken 3 refl refl e t u).0;
   known = λ e x is. ltb-true x.thread 3 (every_at (λ e (x : Event). nat_lt x.thread 3) e taken.events x threads_known is);
   moves = threads_move;
-  joined = joins_two taken 10 refl refl;
+  joined = joins_two taken 11 refl refl;
   positive = λ e k l a. subst (λ (n : ℤ). pos 0 <ℤ n) (sym (allocates_next e k l a)) (omega (arith, ints));
   distinct = λ d e j k l a b. one_place d e l (allocates_next d j l a) (allocates_next e k l b);
 }
@@ -282,4 +293,5 @@ theorem_applies =
       stored = record { event = store_cell; is = refl; writes = refl };
       loaded = record { event = load_cell; is = refl; reads = refl };
       ordered = in_order;
+      freed = record { event = does 2 (label.Free (pos 1)); is = refl; frees = refl };
     }

@@ -57,18 +57,19 @@ giving_fits =
 
 emptying_fits : list_all (stmt_fits taking) emptying ≡ true
 emptying_fits =
-    all_two (stmt_fits taking) (at 232 259 (Act-F.Swap 2 mode.Acq (var 0) (num 0) [])) (at 262 297 (Act-F.If (unequal (var 2) (num 0)) looking []))
+    all_two (stmt_fits taking) (at 232 259 (Act-F.Swap 2 mode.Acq (var 0) (num 0) [])) (at 262 306 (Act-F.If (unequal (var 2) (num 0)) looking []))
     (fits_at taking 232 259 (Act-F.Swap 2 mode.Acq (var 0) (num 0) []))
-    (fits_at taking 262 297 (Act-F.If (unequal (var 2) (num 0)) looking [])
-    ∙ and_from _ true (and_from _ true (folded_at taking 276 295 (Act-F.Load 3 mode.Na (var 1))) refl) refl)
+    (fits_at taking 262 306 (Act-F.If (unequal (var 2) (num 0)) looking [])
+    ∙ and_from _ true (and_from _ _ (folded_at taking 276 295 (Act-F.Load 3 mode.Na (var 1)))
+    (and_from _ true (folded_at taking 296 304 (Act-F.Free (var 1))) refl)) refl)
 
 starting_fits : list_all (stmt_fits taking) starting ≡ true
 starting_fits =
-    all_four (stmt_fits taking) (at 316 333 (Act-F.AllocNa 0)) (at 336 361 (Act-F.AllocAt 1 true (inst 0 (var 0 ∷ []))))
-    (at 364 380 (Act-F.Store mode.Rel (var 1) (num 0))) (at 383 414 (Act-F.Par both_called))
-    (fits_at taking 316 333 (Act-F.AllocNa 0)) (fits_at taking 336 361 (Act-F.AllocAt 1 true (inst 0 (var 0 ∷ []))))
-    (fits_at taking 364 380 (Act-F.Store mode.Rel (var 1) (num 0)))
-    (fits_at taking 383 414 (Act-F.Par both_called)
+    all_four (stmt_fits taking) (at 325 342 (Act-F.AllocNa 0)) (at 345 370 (Act-F.AllocAt 1 true (inst 0 (var 0 ∷ []))))
+    (at 373 389 (Act-F.Store mode.Rel (var 1) (num 0))) (at 392 423 (Act-F.Par both_called))
+    (fits_at taking 325 342 (Act-F.AllocNa 0)) (fits_at taking 345 370 (Act-F.AllocAt 1 true (inst 0 (var 0 ∷ []))))
+    (fits_at taking 373 389 (Act-F.Store mode.Rel (var 1) (num 0)))
+    (fits_at taking 392 423 (Act-F.Par both_called)
     ∙ all_two (child_fits taking) (calls 0 (var 1 ∷ var 0 ∷ [])) (calls 1 (var 1 ∷ var 0 ∷ []))
     (and_from (asrt_fits boxes give_needs false) (asrt_fits boxes nothing false) (give_needs_fit false) (nothing_fits false))
     (and_from (asrt_fits boxes take_needs false) (asrt_fits boxes nothing false) (take_needs_fit false) (nothing_fits false)))
@@ -120,10 +121,14 @@ giving_scoped =
 abbrev emptied : Scope
 emptied = with_sight 2 sight.Local (in_body (parameters_of take))
 
-if_is : stmt_scoped procs (at 262 297 (Act-F.If (unequal (var 2) (num 0)) looking []))
-    ≡ scopes.act_step procs (Act-F.If (unequal (var 2) (num 0)) (scopes.act_step procs (Act-F.Load 3 mode.Na (var 1)) ∷ []) [])
-if_is = scoped_at procs 262 297 (Act-F.If (unequal (var 2) (num 0)) looking [])
-    ∙ (λ j. scopes.act_step procs (Act-F.If (unequal (var 2) (num 0)) (scoped_at procs 276 295 (Act-F.Load 3 mode.Na (var 1)) j ∷ []) []))
+-- behind the load
+abbrev looked : Scope
+looked = with_sight 3 sight.Local emptied
+
+if_is : stmt_scoped procs (at 262 306 (Act-F.If (unequal (var 2) (num 0)) looking []))
+    ≡ scopes.act_step procs (Act-F.If (unequal (var 2) (num 0)) (scopes.act_step procs (Act-F.Load 3 mode.Na (var 1)) ∷ scopes.act_step procs (Act-F.Free (var 1)) ∷ []) [])
+if_is = scoped_at procs 262 306 (Act-F.If (unequal (var 2) (num 0)) looking [])
+    ∙ (λ j. scopes.act_step procs (Act-F.If (unequal (var 2) (num 0)) (scoped_at procs 276 295 (Act-F.Load 3 mode.Na (var 1)) j ∷ scoped_at procs 296 304 (Act-F.Free (var 1)) j ∷ []) []))
 
 emptying_scoped : (block_scoped procs emptying).fits (in_body (parameters_of take)) ≡ true
 emptying_scoped =
@@ -134,11 +139,11 @@ emptying_scoped =
     (and_from _ true
     (and_from (tests emptied (unequal (var 2) (num 0))) _
     (and_from (reads emptied (var 2)) (reads emptied (num 0)) (reads_var emptied 2) (reads_num emptied 0))
-    (and_from _ true (and_from (reads emptied (var 1)) true (reads_var emptied 1) refl) refl))
+    (and_from _ true (and_from (reads emptied (var 1)) _ (reads_var emptied 1) (and_from (reads looked (var 1)) true (reads_var looked 1) refl)) refl))
     refl))
   where
     levels : map (stmt_scoped procs) emptying
-        ≡ scopes.act_step procs (Act-F.Swap 2 mode.Acq (var 0) (num 0) []) ∷ scopes.act_step procs (Act-F.If (unequal (var 2) (num 0)) (scopes.act_step procs (Act-F.Load 3 mode.Na (var 1)) ∷ []) []) ∷ []
+        ≡ scopes.act_step procs (Act-F.Swap 2 mode.Acq (var 0) (num 0) []) ∷ scopes.act_step procs (Act-F.If (unequal (var 2) (num 0)) (scopes.act_step procs (Act-F.Load 3 mode.Na (var 1)) ∷ scopes.act_step procs (Act-F.Free (var 1)) ∷ []) []) ∷ []
     levels = λ j. scoped_at procs 232 259 (Act-F.Swap 2 mode.Acq (var 0) (num 0) []) j ∷ if_is j ∷ []
 
 -- behind the first allocation, and behind both
@@ -161,8 +166,8 @@ starting_scoped =
     levels : map (stmt_scoped procs) starting
         ≡ scopes.act_step procs (Act-F.AllocNa 0) ∷ scopes.act_step procs (Act-F.AllocAt 1 true (inst 0 (var 0 ∷ [])))
         ∷ scopes.act_step procs (Act-F.Store mode.Rel (var 1) (num 0)) ∷ scopes.act_step procs (Act-F.Par both_called) ∷ []
-    levels = λ j. scoped_at procs 316 333 (Act-F.AllocNa 0) j ∷ scoped_at procs 336 361 (Act-F.AllocAt 1 true (inst 0 (var 0 ∷ []))) j
-        ∷ scoped_at procs 364 380 (Act-F.Store mode.Rel (var 1) (num 0)) j ∷ scoped_at procs 383 414 (Act-F.Par both_called) j ∷ []
+    levels = λ j. scoped_at procs 325 342 (Act-F.AllocNa 0) j ∷ scoped_at procs 345 370 (Act-F.AllocAt 1 true (inst 0 (var 0 ∷ []))) j
+        ∷ scoped_at procs 373 389 (Act-F.Store mode.Rel (var 1) (num 0)) j ∷ scoped_at procs 392 423 (Act-F.Par both_called) j ∷ []
 
 -- ---- the whole
 
