@@ -16,7 +16,7 @@ use std::alloc::{AllocError, Global};
 
 /// The terms of expressions, from left to right; `None` where one of them is no term.
 #[tactic(auto, using(crate::proofs::LeavesLemmas::terms_wide, crate::proofs::LeavesLemmas::terms_done))]
-pub fn terms(
+pub fn all_terms(
     alloc: Global,
     state: &State,
     es: &[Expr],
@@ -48,7 +48,7 @@ pub fn leave(
     let Some(at) = read(alloc, state, at, env)? else {
         return Ok(None);
     };
-    let Some(args) = terms(alloc, state, inst.args.as_slice(), env)? else {
+    let Some(args) = all_terms(alloc, state, inst.args.as_slice(), env)? else {
         return Ok(None);
     };
     let inv = inst.inv;

@@ -13,7 +13,7 @@ ghost use Rattle.fsl_asrt.specs.Cells.{take_at};
 
 use crate::bound::{failing, going, went_with};
 use crate::branch::Bound;
-use crate::leaves::{leave, terms};
+use crate::leaves::{all_terms, leave};
 use fsl_base::List;
 use fsl_chunk::{Env, Leave, State, Want};
 use fsl_core::{Chunk, Expr, Inst, Kind, Mood, Rung};
@@ -37,7 +37,7 @@ pub fn produce_acq(
     let Some(leave) = leave(alloc, &state, at, inst, &env)? else {
         return failing(alloc, Kind::Term);
     };
-    match terms(alloc, &state, out, &env)? {
+    match all_terms(alloc, &state, out, &env)? {
         Some(out) => add_permission(alloc, state, leave, part, out, env),
         None => failing(alloc, Kind::Term),
     }
@@ -86,7 +86,7 @@ pub fn consume_acq(
     let Some(leave) = leave(alloc, &state, at, inst, &env)? else {
         return failing(alloc, Kind::Term);
     };
-    match terms(alloc, &state, out, &env)? {
+    match all_terms(alloc, &state, out, &env)? {
         Some(out) => take_permission(alloc, state, &leave, part, &out, env),
         None => failing(alloc, Kind::Term),
     }

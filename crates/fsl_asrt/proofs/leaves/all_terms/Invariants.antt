@@ -1,7 +1,7 @@
 use Rattle.std.proofs.Common.{◌≡◌, ◌++◌, drop, map}
 use Rattle.fsl_core.specs.logic.States.{followed, give}
 use Rattle.fsl_core.specs.logic.Terms.{expr_of, terms}
-use Rattle.fsl_asrt.proofs.leaves.terms.Given as goal
+use Rattle.fsl_asrt.proofs.leaves.all_terms.Given as goal
 
 abbrev pub invariant-loop-e : goal.invariant-loop-e
 invariant-loop-e l =

@@ -1,7 +1,7 @@
 use Rattle.std.proofs.Common.{map, sym, ◌∙◌}
 use Rattle.fsl_core.specs.logic.Terms.{expr_of}
 use Rattle.fsl_asrt.proofs.LeavesLemmas.{terms_first, terms_more}
-use Rattle.fsl_asrt.proofs.leaves.terms.Goals as goal
+use Rattle.fsl_asrt.proofs.leaves.all_terms.Goals as goal
 
 pub loop-e-init : goal.loop-e-init
 loop-e-init c = terms_first (map expr_of c.args.es.now) c.args.env.now c.args.state.now c.new-out.result c.new-out.ensures
