@@ -1,7 +1,7 @@
 -- Tokens of a bank, or the authority over it, by the number of their chunk.
-use Rattle.std.specs.Prelude.{◌≡◌, ℕ, ◌<◌, List, ◌∷◌, ◌++◌, length, Option, Some, None, remove, slice_get, slice_set}
+use Rattle.std.specs.Prelude.{◌≡◌, ℕ, ◌<◌, List, ◌∷◌, ◌++◌, length, Option, Some, None, pos, remove, slice_get, slice_set}
 use Rattle.std.specs.Option.{option_map}
-use Rattle.fsl_asrt.specs.Cells.{put_at}
+use Rattle.fsl_asrt.specs.Cells.{put_at, take_at}
 use Rattle.fsl_asrt.specs.declared.counts.FoundCount.{FoundCount}
 use Rattle.fsl_chunk.specs.Kind.{kind_of, rung_of}
 use Rattle.fsl_chunk.specs.declared.kind.ChunkKind.{ChunkKind}
@@ -11,10 +11,11 @@ use Rattle.fsl_core.specs.declared.mode.Rung.TheVariants.{Plain}
 use Rattle.fsl_core.specs.logic.States.{Action, ◌>>◌, ◌>>=◌, look}
 use Rattle.fsl_core.specs.logic.Terms.{fitting}
 use Rattle.fsl_core.specs.logic.Chunks.{Count, Found, find, add, tokens_of, authority_of}
-use Rattle.fsl_core.specs.logic.Joining.{assume_count, assume_counts, assume_alone, count_in, join_tokens}
-use Rattle.fsl_core.specs.logic.Consuming.{demand_at_most}
+use Rattle.fsl_core.specs.logic.Deciding.{assume_at_most}
+use Rattle.fsl_core.specs.logic.Joining.{nought, assume_count, assume_counts, assume_alone, count_in, join_tokens}
+use Rattle.fsl_core.specs.logic.Consuming.{demand_at_most, demand_equal}
 use Rattle.fsl_core.specs.declared.verdict.Kind.TheVariants.{Token}
-use Rattle.fsl_lin.specs.Combination.{Combination, plus, minus}
+use Rattle.fsl_lin.specs.Combination.{Combination, plus, minus, constant}
 
 abbrev pub count_of : FoundCount → Count
 count_of c = record { bank = c.bank; n = c.n }
@@ -56,12 +57,23 @@ joining g k = do
   sum ← join_tokens g k f
   allowed g sum
 
+-- a bank that has none yet
+abbrev pub begun : Combination → Combination → Action
+begun g k = do
+  add (chunk.Tok g k)
+  allowed g k
+
+-- the chunk of a number holds the sum
+abbrev pub summed_to : Combination → FoundCount → Combination → Action
+summed_to g c sum = do
+  put_at c.number (chunk.Tok c.bank sum)
+  allowed g sum
+
 -- they join the chunk of a number
 abbrev pub more_at : Combination → FoundCount → Combination → Action
 more_at g c k = do
   sum ← fitting (plus c.n k)
-  put_at c.number (chunk.Tok c.bank sum)
-  allowed g sum
+  summed_to g c sum
 
 -- the chunk of a number keeps what is left
 abbrev pub fewer_at : FoundCount → Combination → Action
@@ -82,9 +94,21 @@ bounding g n = do
   assume_counts g n cs
   add (chunk.Auth g n)
 
+-- a second one contradicts it
+abbrev pub contradicted : Combination → Combination → Action
+contradicted g n = do
+  assume_at_most (constant (pos 1)) (pos 0) nought
+  bounding g n
+
 -- and it is the only one
 abbrev pub sole : Combination → Combination → Action
 sole g n = do
   a ← find (authority_of g)
   assume_alone a
   bounding g n
+
+-- the chunk of a number goes, where it allows as many
+abbrev pub authority_taken : FoundCount → Combination → Action
+authority_taken a n = do
+  demand_equal Token a.n n
+  take_at a.number

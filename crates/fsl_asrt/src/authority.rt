@@ -1,20 +1,17 @@
 //! The authority over a bank, produced and consumed. A bank has one, and no chunk of its tokens holds more than it
 //! allows.
 ghost use Rattle.std.specs.Prelude.{◌≡◌, Some, pos, IfOk};
-ghost use Rattle.fsl_core.specs.declared.verdict.Kind.TheVariants.{Token};
-ghost use Rattle.fsl_core.specs.logic.States.{◌>>◌};
 ghost use Rattle.fsl_core.specs.logic.Terms.{expr_of};
 ghost use Rattle.fsl_core.specs.logic.Chunks.{tokens_of};
 ghost use Rattle.fsl_core.specs.logic.Deciding.{assume_at_most};
 ghost use Rattle.fsl_core.specs.logic.Joining.{nought, counted, assume_count, assume_counts, produce_authority};
 ghost use Rattle.fsl_core.specs.logic.Producing.{auth_produced};
-ghost use Rattle.fsl_core.specs.logic.Consuming.{demand_equal, consume_authority, auth_consumed};
+ghost use Rattle.fsl_core.specs.logic.Consuming.{consume_authority, auth_consumed};
 ghost use Rattle.fsl_lin.specs.Combination.{constant};
 ghost use Rattle.fsl_chunk.specs.Went.{branches};
 ghost use Rattle.fsl_chunk.specs.declared.kind.ChunkKind.TheVariants.{Auth};
 ghost use Rattle.fsl_asrt.specs.Branch.{bounds};
-ghost use Rattle.fsl_asrt.specs.Cells.{take_at};
-ghost use Rattle.fsl_asrt.specs.Counts.{IsOf, sole, bounding};
+ghost use Rattle.fsl_asrt.specs.Counts.{IsOf, sole, bounding, contradicted, authority_taken};
 
 use crate::asked::read;
 use crate::bound::{failing, went_with};
@@ -96,7 +93,7 @@ fn add_sole(alloc: Global, state: State, bank: Lin, n: Lin) -> Result<Went, Allo
 
 /// The authority is there already.
 fn add_second(alloc: Global, state: State, bank: Lin, n: Lin) -> Result<Went, AllocError>
-    ensures { IfOk result (λ went. branches went ≡ (assume_at_most (constant (pos 1)) (pos 0) nought >> bounding bank n) state) }
+    ensures { IfOk result (λ went. branches went ≡ contradicted bank n state) }
 {
     match contradict(alloc, state)? {
         Went::Goes { state } => add_bounding(alloc, state, bank, n),
@@ -193,7 +190,7 @@ pub fn take_authority(alloc: Global, state: State, bank: &Lin, n: &Lin) -> Resul
 /// Takes the chunk of an authority out, where it allows n.
 fn take_equal(state: State, a: &FoundCount, n: &Lin) -> Went
     requires { IsOf Auth a.now.number state.chunks }
-    ensures { branches result ≡ (demand_equal Token a.now.n n.now >> take_at a.now.number) state }
+    ensures { branches result ≡ authority_taken a.now n.now state }
 {
     if state.proves_equal(&a.n, n) {
         let mut state = state;

@@ -1,15 +1,14 @@
 //! Claims, which need no count: that a location has been written, and leave to write or to read-modify-write it. One
 //! that is there already isn't added again, and one that is asked for stays.
 ghost use Rattle.std.specs.Prelude.{◌≡◌, IfOk};
-ghost use Rattle.fsl_core.specs.logic.States.{◌>>◌, give};
 ghost use Rattle.fsl_core.specs.logic.Terms.{expr_of};
-ghost use Rattle.fsl_core.specs.logic.Chunks.{find_or};
 ghost use Rattle.fsl_core.specs.logic.Joining.{produce_init, produce_rel, produce_rmw};
 ghost use Rattle.fsl_core.specs.logic.Producing.{inst_of, init_produced, rel_produced, rmw_produced};
 ghost use Rattle.fsl_core.specs.logic.Consuming.{init_consumed, rel_consumed, rmw_consumed};
-ghost use Rattle.fsl_chunk.specs.Fits.{leave_of, reading};
+ghost use Rattle.fsl_chunk.specs.Fits.{leave_of};
 ghost use Rattle.fsl_chunk.specs.Went.{branches};
 ghost use Rattle.fsl_asrt.specs.Branch.{bounds};
+ghost use Rattle.fsl_asrt.specs.Claims.{demanded};
 
 use crate::asked::read;
 use crate::bound::{failing, going, went_with};
@@ -69,7 +68,7 @@ fn demand_chunk(
     kind: Kind,
     env: Env,
 ) -> Result<List<Bound>, AllocError>
-    ensures { IfOk result (λ bs. bounds bs ≡ (find_or kind (reading want.now) >> give env) state) }
+    ensures { IfOk result (λ bs. bounds bs ≡ demanded kind want.now env state) }
 {
     match state.find(want) {
         Some(_number) => going(alloc, state, env),

@@ -1,15 +1,11 @@
 //! Leave to acquire one part of a location's invariant, but for the values that were read already.
 ghost use Rattle.std.specs.Prelude.{◌≡◌, ◌<◌, length, map, IfOk};
-ghost use Rattle.fsl_core.specs.declared.chunk.Chunk.TheVariants as chunk;
-ghost use Rattle.fsl_core.specs.declared.verdict.Kind.TheVariants as kind;
-ghost use Rattle.fsl_core.specs.logic.States.{◌>>◌, ◌>>=◌, give};
 ghost use Rattle.fsl_core.specs.logic.Terms.{expr_of};
-ghost use Rattle.fsl_core.specs.logic.Chunks.{find_or, take, add};
 ghost use Rattle.fsl_core.specs.logic.Producing.{inst_of, acq_produced};
-ghost use Rattle.fsl_core.specs.logic.Consuming.{permission_of, acq_consumed};
+ghost use Rattle.fsl_core.specs.logic.Consuming.{acq_consumed};
 ghost use Rattle.fsl_chunk.specs.Fits.{permission};
 ghost use Rattle.fsl_asrt.specs.Branch.{bounds};
-ghost use Rattle.fsl_asrt.specs.Cells.{take_at};
+ghost use Rattle.fsl_asrt.specs.Claims.{permitted, permission_taken, number_taken};
 
 use crate::bound::{failing, going, went_with};
 use crate::branch::Bound;
@@ -52,7 +48,7 @@ fn add_permission(
     out: List<Lin>,
     env: Env,
 ) -> Result<List<Bound>, AllocError>
-    ensures { IfOk result (λ bs. bounds bs ≡ (add (chunk.Acq leave.at leave.inv leave.args part out) >> give env) state) }
+    ensures { IfOk result (λ bs. bounds bs ≡ permitted leave part out env state) }
 {
     let Leave { at, inv, args } = leave;
     let went = state.add(
@@ -102,7 +98,7 @@ fn take_permission(
     out: &List<Lin>,
     env: Env,
 ) -> Result<List<Bound>, AllocError>
-    ensures { IfOk result (λ bs. bounds bs ≡ (find_or kind.Acq (permission_of (permission leave.now part out.now)) >>= (λ f. take f >> give env)) state) }
+    ensures { IfOk result (λ bs. bounds bs ≡ permission_taken (permission leave.now part out.now) env state) }
 {
     match state.find(&Want::AcqOf { leave, part, out }) {
         Some(number) => without(alloc, state, number, env),
@@ -118,7 +114,7 @@ fn without(
     env: Env,
 ) -> Result<List<Bound>, AllocError>
     requires { number < length state.chunks }
-    ensures { IfOk result (λ bs. bounds bs ≡ (take_at number >> give env) state) }
+    ensures { IfOk result (λ bs. bounds bs ≡ number_taken number env state) }
 {
     let mut state = state;
     let _taken = state.take(number);

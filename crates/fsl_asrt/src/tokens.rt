@@ -1,9 +1,7 @@
 //! Counting tokens and their authority, produced and consumed.
 ghost use Rattle.std.specs.Prelude.{◌≡◌, true, pos, IfOk};
 ghost use Rattle.fsl_core.specs.declared.chunk.Chunk.TheVariants as chunk;
-ghost use Rattle.fsl_core.specs.logic.States.{◌>>◌};
 ghost use Rattle.fsl_core.specs.logic.Terms.{expr_of};
-ghost use Rattle.fsl_core.specs.logic.Chunks.{add};
 ghost use Rattle.fsl_core.specs.logic.Deciding.{proves_at_most, assume_at_most};
 ghost use Rattle.fsl_core.specs.logic.Joining.{nought, produce_tokens};
 ghost use Rattle.fsl_core.specs.logic.Producing.{tok_produced};
@@ -12,7 +10,7 @@ ghost use Rattle.fsl_chunk.specs.Went.{branches};
 ghost use Rattle.fsl_chunk.specs.declared.kind.ChunkKind.TheVariants.{Tok};
 ghost use Rattle.fsl_asrt.specs.Branch.{bounds};
 ghost use Rattle.fsl_asrt.specs.Cells.{put_at};
-ghost use Rattle.fsl_asrt.specs.Counts.{IsOf, allowed, joining, more_at, taken_at, fewer_at};
+ghost use Rattle.fsl_asrt.specs.Counts.{IsOf, allowed, joining, begun, summed_to, more_at, taken_at, fewer_at};
 
 use crate::asked::read;
 use crate::bound::{failing, went_with};
@@ -101,7 +99,7 @@ fn join(alloc: Global, state: State, bank: Lin, n: Lin) -> Result<Went, AllocErr
 
 /// Tokens of a bank that has none yet.
 fn new_tokens(alloc: Global, state: State, bank: &Lin, n: &Lin) -> Result<Went, AllocError>
-    ensures { IfOk result (λ went. branches went ≡ (add (chunk.Tok bank.now n.now) >> allowed bank.now n.now) state) }
+    ensures { IfOk result (λ went. branches went ≡ begun bank.now n.now state) }
 {
     let chunk = tokens(alloc, bank, n)?;
     match state.add(alloc, chunk)? {
@@ -147,7 +145,7 @@ fn put_sum(
     sum: &Lin,
 ) -> Result<Went, AllocError>
     requires { IsOf Tok c.now.number state.chunks }
-    ensures { IfOk result (λ went. branches went ≡ (put_at c.now.number (chunk.Tok c.now.bank sum.now) >> allowed bank.now sum.now) state) }
+    ensures { IfOk result (λ went. branches went ≡ summed_to bank.now c.now sum.now state) }
 {
     let chunk = tokens(alloc, &c.bank, sum)?;
     let mut state = state;
