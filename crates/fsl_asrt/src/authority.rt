@@ -163,12 +163,7 @@ fn held_by(
 }
 
 /// Assumes that tokens that were counted are at most n.
-fn assume_count(
-    alloc: Global,
-    state: State,
-    k: Option<Lin>,
-    n: &Lin,
-) -> Result<Went, AllocError>
+fn assume_count(alloc: Global, state: State, k: Option<Lin>, n: &Lin) -> Result<Went, AllocError>
     ensures { IfOk result (λ went. branches went ≡ assume_count k (Some n.now) state) }
 {
     match k {

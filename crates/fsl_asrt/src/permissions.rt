@@ -107,12 +107,7 @@ fn take_permission(
 }
 
 /// The chunk of this number goes.
-fn without(
-    alloc: Global,
-    state: State,
-    number: u32,
-    env: Env,
-) -> Result<List<Bound>, AllocError>
+fn without(alloc: Global, state: State, number: u32, env: Env) -> Result<List<Bound>, AllocError>
     requires { number < length state.chunks }
     ensures { IfOk result (λ bs. bounds bs ≡ number_taken number env state) }
 {
