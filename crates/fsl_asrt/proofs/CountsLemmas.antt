@@ -184,14 +184,20 @@ consumed_by : (g k : Combination) (s : State) (f : Found Chunk Count) → first 
     → proves_at_most s.facts nought (pos 0) k ≡ true → consume_tokens g k s ≡ rest_by (put f) f.is k s
 consumed_by g k s f h l = rw (l, h) (append-nil (rest_by (put f) f.is k s ++ []) ∙ append-nil (rest_by (put f) f.is k s))
 
+-- what is left, put in the place of the chunk
+rest_put : (s t : State) (f : Found Chunk Count) (c : FoundCount) (k : Combination) → IsCounted Tok s.chunks f c → t.chunks ≡ s.chunks
+    → fewer_at c k t ≡ (fitting (minus c.n k) >>= (λ r. put f (chunk.Tok c.bank r))) t
+rest_put s t f c k h e =
+    followed_same t (fitting (minus c.n k) t) (λ r. put_at c.number (chunk.Tok c.bank r)) (λ r. put f (chunk.Tok c.bank r))
+    (fitting_kept (minus c.n k) t) (λ r u m. put_same s u f c (chunk.Tok c.bank r) h (m ∙ e))
+
 pub consumed_count : (g k : Combination) (s : State) (c : FoundCount) → IsCountedBy Tok s.chunks (first (tokens_of g s.facts) s.chunks) (Some c)
     → proves_at_most s.facts nought (pos 0) k ≡ true → taken_at c k s ≡ consume_tokens g k s
 consumed_count g k s c i l =
     let f = finds Tok s.chunks (first (tokens_of g s.facts) s.chunks) c i in
-    let a : rest_by (put_at c.number) (count_of c) k s ≡ rest_by (put f.found) (count_of c) k s =
-    followed_same s (demand_at_most kind.Token k c.n s) _ _ (demanded_kept k c.n s) (λ _ t e.
-    followed_same t (fitting (minus c.n k) t) _ _ (fitting_kept (minus c.n k) t) (λ r u m.
-    put_same s u f.found c (chunk.Tok c.bank r) f.same (m ∙ e))) in
+    let a : taken_at c k s ≡ rest_by (put f.found) (count_of c) k s =
+    followed_same s (demand_at_most kind.Token k c.n s) (λ _. fewer_at c k) (λ _. fitting (minus c.n k) >>= (λ r. put f.found (chunk.Tok c.bank r)))
+    (demanded_kept k c.n s) (λ _ t e. rest_put s t f.found c k f.same e) in
     a ∙ ap (λ (x : Count). rest_by (put f.found) x k s) f.same.is ∙ sym (consumed_by g k s f.found f.is l)
 
 pub too_few : (g k : Combination) (s : State) → IsCountedBy Tok s.chunks (first (tokens_of g s.facts) s.chunks) None
