@@ -1,9 +1,9 @@
 -- The authority over a bank: the tokens that it bounds, one chunk after the other.
-use Rattle.std.proofs.Common.{◌≡◌, ◌≤◌, ℕ, zero, suc, ◌+◌, Bool, true, false, List, [], ◌∷◌, ◌++◌, length, drop, Option, Some, None, pos, slice_get, refl, sym, ap, ◌∙◌, append-nil, add-one}
+use Rattle.std.proofs.Common.{◌≡◌, ◌≤◌, ℕ, zero, suc, ◌+◌, Bool, true, false, List, [], ◌∷◌, ◌++◌, length, drop, Option, Some, None, pos, slice_get, remove, refl, sym, ap, ◌∙◌, append-nil, add-one}
 use Rattle.std.proofs.Math.ListN.{drop_of_length-le}
 use Rattle.fsl_asrt.specs.declared.counts.FoundCount.{FoundCount}
 use Rattle.fsl_asrt.specs.Cells.{take_at}
-use Rattle.fsl_asrt.specs.Counts.{count_of, IsCounted, IsCountedBy, bounding, sole}
+use Rattle.fsl_asrt.specs.Counts.{count_of, IsCounted, IsCountedBy, bounding, sole, authority_taken}
 use Rattle.fsl_asrt.proofs.Sought.{found_at, found_none}
 use Rattle.fsl_asrt.proofs.CountsLemmas.{finds, finds_none}
 use Rattle.fsl_asrt.proofs.Keeping.{AreKept, followed_same, goes_kept, kept_append, met_kept, at_most_kept}
@@ -117,6 +117,13 @@ taken_authority g n s a i =
 pub no_authority : (g n : Combination) (s : State) → IsCountedBy Auth s.chunks (first (authority_of g s.facts) s.chunks) None
     → fails kind.Token ∷ [] ≡ consume_authority g n s
 no_authority g n s i = rw (finds_none Auth s.chunks (first (authority_of g s.facts) s.chunks) i) refl
+
+pub allows : (a : FoundCount) (n : Combination) (s t : State) → proves_equal s.facts a.n n ≡ true → t ≡ record s { chunks = remove s.chunks a.number }
+    → goes tt t ∷ [] ≡ authority_taken a n s
+allows a n s t h e = rw (h, e) refl
+
+pub allows_other : (a : FoundCount) (n : Combination) (s : State) → proves_equal s.facts a.n n ≡ false → fails kind.Token ∷ [] ≡ authority_taken a n s
+allows_other a n s h = rw h refl
 
 -- ---- what a chunk holds of a bank
 

@@ -184,6 +184,7 @@ pub fn take_authority(alloc: Global, state: State, bank: &Lin, n: &Lin) -> Resul
 }
 
 /// Takes the chunk of an authority out, where it allows n.
+#[tactic(auto, using(crate::proofs::AuthorityLemmas::allows, crate::proofs::AuthorityLemmas::allows_other))]
 fn take_equal(state: State, a: &FoundCount, n: &Lin) -> Went
     requires { IsOf Auth a.now.number state.chunks }
     ensures { branches result ≡ authority_taken a.now n.now state }
