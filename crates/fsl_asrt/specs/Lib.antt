@@ -1,6 +1,8 @@
 pub mod Asked
 pub mod Branch
 pub mod Cells
+pub mod Claims
+pub mod Counts
 pub mod Pointed
 pub mod Sides
 pub mod Supported
