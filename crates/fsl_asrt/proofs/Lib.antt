@@ -1,8 +1,12 @@
+pub mod AuthorityLemmas
 pub mod CellsLemmas
+pub mod CountsLemmas
 pub mod DecidingLemmas
 pub mod JoinLemmas
 pub mod Keeping
 pub mod Laws
+pub mod LeavesLemmas
+pub mod Sought
 pub mod TakeLemmas
 pub mod TermsLemmas
 pub mod WalkLemmas

@@ -1,8 +1,6 @@
 -- Assertions that are produced or consumed one after the other.
 use Rattle.std.proofs.Common.{◌≡◌, ℕ, suc, ◌+◌, ◌<◌, Bool, true, false, List, [], ◌∷◌, ◌++◌, length, get_or, drop, map, refl, sym, ap, subst, ◌∙◌, add-one, drop-cons, append-nil}
-use Rattle.std.specs.List.{list_all}
 use Rattle.fsl_asrt.specs.Branch.{bounds, decided as decided_list}
-use Rattle.fsl_asrt.specs.Supported.{is_supported}
 use Rattle.fsl_asrt.specs.declared.branch.Bound.{Bound}
 use Rattle.fsl_asrt.specs.declared.branch.Decided.{Decided}
 use Rattle.fsl_asrt.specs.declared.walk.Way.{Way}
@@ -15,12 +13,13 @@ use Rattle.fsl_core.specs.declared.assertion.Asrt.TheOpen.{Asrt-F}
 use Rattle.fsl_core.specs.declared.assertion.Asrt.TheVariants.{Choice, rolls-Choice}
 use Rattle.fsl_core.specs.declared.expr.Cond.{Cond}
 use Rattle.fsl_core.specs.declared.mode.Rung.{Rung}
+use Rattle.fsl_core.specs.declared.mode.Rung.TheVariants.{Up, Down}
 use Rattle.fsl_core.specs.declared.verdict.Mood.{Mood}
 use Rattle.fsl_core.specs.logic.States.{Env, State, goes, Branches, Rule, followed}
 use Rattle.fsl_core.specs.logic.Terms.{expr_of}
 use Rattle.fsl_core.specs.logic.Deciding.{Condition, cond_of, decided}
 use Rattle.fsl_core.specs.logic.Producing.{chosen}
-use Rattle.fsl_core.specs.logic.Assertions.{Assertion, choice, asrt_step, asrt_of}
+use Rattle.fsl_core.specs.logic.Assertions.{Assertion, choice, up, down, asrt_step, asrt_of}
 
 -- the first of several, on each branch, and then the others
 pub one_more : (way : Way) (a : Assertion) (rest : List Assertion) (rung : Rung) (bs : Branches Env)
@@ -53,6 +52,15 @@ pub by_choice : (way : Way) (cond : Condition) (a b : Assertion) (rung : Rung) (
 by_choice Produce cond a b rung env s = followed_equal (decided cond env s) _ _ (λ holds t. arm_produced a b holds rung env t)
 by_choice (Consume mood) cond a b rung env s = followed_equal (decided cond env s) _ _ (λ holds t. arm_consumed mood a b holds rung env t)
 
+-- inside a modality the rung is the modality's own
+pub by_up : (way : Way) (a : Assertion) (rung : Rung) (env : Env) (s : State) → by_way way (up a) rung env s ≡ by_way way a Up env s
+by_up Produce a rung env s = refl
+by_up (Consume mood) a rung env s = refl
+
+pub by_down : (way : Way) (a : Assertion) (rung : Rung) (env : Env) (s : State) → by_way way (down a) rung env s ≡ by_way way a Down env s
+by_down Produce a rung env s = refl
+by_down (Consume mood) a rung env s = refl
+
 -- one level of a choice
 pub level_of_choice : (cond : Cond) (a b : Asrt) → asrt_of (Choice cond a b) ≡ choice (cond_of expr_of cond) (asrt_of a) (asrt_of b)
 level_of_choice cond a b = ap asrt_of (sym (rolls-Choice cond a b)) ∙ fold-roll-Asrt Assertion (asrt_step expr_of) (Asrt-F.Choice cond a b)
@@ -74,14 +82,6 @@ first_choice way cond a b x rung env s out rest ds h i k l =
 -- the item of a list at a place, and those behind it
 pub next_item : {X : Type 0} (xs : List X) (i : ℕ) (x : X) → i < length xs → x ≡ get_or xs i x → drop i xs ≡ x ∷ drop (i + 1) xs
 next_item xs i x h e = rw add-one (drop-cons xs i x h ∙ ap (λ y. y ∷ drop (suc i) xs) (sym e))
-
-all_rest : (b : Bool) (bs : List Bool) → list_all (λ p. p) (b ∷ bs) ≡ true → list_all (λ p. p) bs ≡ true
-all_rest true bs h = h
-all_rest false bs h = absurd cc
-
-pub rest_supported : (xs ys : List Asrt) (x : Asrt) → xs ≡ x ∷ ys → list_all (λ p. p) (map is_supported xs) ≡ true → list_all (λ p. p) (map is_supported ys) ≡ true
-rest_supported xs ys x e h =
-    all_rest (is_supported x) (map is_supported ys) (subst (λ (zs : List Asrt). list_all (λ p. p) (map is_supported zs) ≡ true) e h)
 
 -- one more part is done
 pub part_done : (way : Way) (rung : Rung) (xs ys : List Asrt) (x : Asrt) (bs cs whole : Branches Env) → xs ≡ x ∷ ys

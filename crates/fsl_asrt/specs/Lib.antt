@@ -1,6 +1,7 @@
 pub mod Asked
 pub mod Branch
 pub mod Cells
+pub mod Counts
 pub mod Pointed
 pub mod Sides
 pub mod Supported

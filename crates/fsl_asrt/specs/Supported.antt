@@ -1,4 +1,4 @@
--- Assertions that are produced and consumed so far: facts, cells, choices, and several of them.
+-- Assertions of the programs that are covered so far: facts, cells, choices, and several of them.
 use Rattle.std.specs.Prelude.{Bool, true, false, ◌&&◌}
 use Rattle.std.specs.List.{list_all}
 use Rattle.fsl_core.specs.declared.assertion.Asrt.{Asrt}

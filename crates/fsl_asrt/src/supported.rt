@@ -1,4 +1,4 @@
-//! Which assertions are produced and consumed so far.
+//! Which assertions stand in the programs that are covered so far.
 ghost use Rattle.std.specs.Prelude.{◌≡◌};
 ghost use Rattle.fsl_asrt.specs.Supported.{is_supported};
 

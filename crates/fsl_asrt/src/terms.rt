@@ -89,7 +89,7 @@ fn product(alloc: Global, pure: &Pure, a: &Lin, b: &Lin) -> Result<Lin, LinFault
 }
 
 /// The term of a variable.
-fn var(alloc: Global, env: &Env, slot: u32) -> Result<Lin, AllocError>
+pub fn var(alloc: Global, env: &Env, slot: u32) -> Result<Lin, AllocError>
     ensures { IfOk result (λ t. get_or env.now slot (constant (pos 0)) ≡ t) }
 {
     match env.get(slot) {

@@ -1,14 +1,14 @@
 //! Assertions, produced and consumed part by part on every branch.
-ghost use Rattle.std.specs.Prelude.{◌≡◌, IfOk, IsTrue};
+ghost use Rattle.std.specs.Prelude.{◌≡◌, IfOk};
 ghost use Rattle.fsl_core.specs.logic.States.{followed};
 ghost use Rattle.fsl_core.specs.logic.Terms.{expr_of};
 ghost use Rattle.fsl_core.specs.logic.Deciding.{cond_of};
 ghost use Rattle.fsl_core.specs.logic.Producing.{pat_of};
 ghost use Rattle.fsl_core.specs.logic.Assertions.{asrt_of};
 ghost use Rattle.fsl_asrt.specs.Branch.{bounds};
-ghost use Rattle.fsl_asrt.specs.Supported.{is_supported};
 ghost use Rattle.fsl_asrt.specs.Walk.{by_way, fact_by, points_by};
 
+use crate::atoms::{acq, auth, init, rel, rmw, tok};
 use crate::bound::going;
 use crate::branch::{Bound, Decided};
 use crate::deciding::decide_cond;
@@ -33,7 +33,6 @@ pub fn produce(
     env: Env,
     rung: Rung,
 ) -> Result<List<Bound>, AllocError>
-    requires { IsTrue (is_supported a.now) }
     ensures { IfOk result (λ bs. bounds bs ≡ (asrt_of a.now).produce rung env state) }
 {
     walk(alloc, Way::Produce, state, a, env, rung)
@@ -48,7 +47,6 @@ pub fn consume(
     rung: Rung,
     mood: Mood,
 ) -> Result<List<Bound>, AllocError>
-    requires { IsTrue (is_supported a.now) }
     ensures { IfOk result (λ bs. bounds bs ≡ (asrt_of a.now).consume mood rung env state) }
 {
     walk(alloc, Way::Consume { mood }, state, a, env, rung)
@@ -56,7 +54,7 @@ pub fn consume(
 
 /// Produces or consumes an assertion.
 #[cycle(walk)]
-#[tactic(auto, using(crate::proofs::WalkLemmas::by_choice, crate::proofs::WalkLemmas::one_more, crate::proofs::WalkLemmas::no_more))]
+#[tactic(auto, using(crate::proofs::WalkLemmas::by_choice, crate::proofs::WalkLemmas::one_more, crate::proofs::WalkLemmas::no_more, crate::proofs::WalkLemmas::by_up, crate::proofs::WalkLemmas::by_down))]
 fn walk(
     alloc: Global,
     way: Way,
@@ -65,13 +63,33 @@ fn walk(
     env: Env,
     rung: Rung,
 ) -> Result<List<Bound>, AllocError>
-    requires { IsTrue (is_supported a.now) }
     ensures { IfOk result (λ bs. bounds bs ≡ by_way way (asrt_of a.now) rung env state) }
 {
     match a {
         Asrt::Emp => going(alloc, state, env),
         Asrt::Fact { cond } => fact(alloc, way, state, cond, env, rung),
         Asrt::Points { at, share, pat } => points(alloc, way, state, at, share, pat, env, rung),
+        Asrt::Init { at } => init(alloc, way, state, at, env, rung),
+        Asrt::Rel { at, inst } => rel(alloc, way, state, at, inst, env, rung),
+        Asrt::Acq {
+            at,
+            inst,
+            part,
+            out,
+        } => acq(
+            alloc,
+            way,
+            state,
+            at,
+            inst,
+            *part,
+            out.as_slice(),
+            env,
+            rung,
+        ),
+        Asrt::RmwAcq { at, inst } => rmw(alloc, way, state, at, inst, env, rung),
+        Asrt::Tok { bank, n } => tok(alloc, way, state, *bank, n, env, rung),
+        Asrt::Auth { bank, n } => auth(alloc, way, state, *bank, n, env, rung),
         Asrt::Choice { cond, yes, no } => {
             let env = &env;
             let decided = decide_cond(alloc, state, cond, env)?;
@@ -94,6 +112,8 @@ fn walk(
             }
             Ok(out)
         }
+        Asrt::Up { a: inside } => walk(alloc, way, state, inside.get(), env, Rung::Up),
+        Asrt::Down { a: inside } => walk(alloc, way, state, inside.get(), env, Rung::Down),
         Asrt::Both { parts } => {
             let mut branches = going(alloc, state, env)?;
             for part in parts.as_slice() {
@@ -101,7 +121,6 @@ fn walk(
             }
             Ok(branches)
         }
-        _ => unreachable!(),
     }
 }
 
@@ -114,7 +133,6 @@ fn each(
     a: &Asrt,
     rung: Rung,
 ) -> Result<List<Bound>, AllocError>
-    requires { IsTrue (is_supported a.now) }
     ensures { IfOk result (λ bs. bounds bs ≡ followed (bounds branches) (by_way way (asrt_of a.now) rung)) }
 {
     let mut out = List::new(alloc);

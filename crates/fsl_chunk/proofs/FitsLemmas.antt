@@ -1,10 +1,11 @@
 -- Whether a chunk reads as something, by what is asked of it.
-use Rattle.std.proofs.Common.{◌≡◌, Bool, true, false, ◌&&◌, List, Option, pos}
+use Rattle.std.proofs.Common.{◌≡◌, ◌==◌, Bool, true, false, ◌&&◌, List, Option, pos}
 use Rattle.std.specs.Prelude.{is_some, ℕ}
 use Rattle.fsl_core.specs.declared.chunk.Chunk.{Chunk}
 use Rattle.fsl_core.specs.declared.chunk.Chunk.TheVariants as chunk
 use Rattle.fsl_core.specs.declared.mode.Rung.{Rung}
-use Rattle.fsl_core.specs.logic.Chunks.{when, same_rung, leave, cell_at, enough_at, init_at, rel_at, rmw_at, tokens_of, authority_of}
+use Rattle.fsl_core.specs.logic.Chunks.{when, same_rung, Leave, Permission, leave, same_leave, cell_at, enough_at, init_at, rel_at, rmw_at, rel_of, rmw_of, tokens_of, authority_of}
+use Rattle.fsl_core.specs.logic.Consuming.{excludes_no_more, permission_of}
 use Rattle.fsl_core.specs.logic.Deciding.{proves_equal, proves_at_most}
 use Rattle.fsl_lin.specs.Combination.{Combination}
 use Rattle.fsl_lin.specs.declared.fact.Fact.{Fact}
@@ -32,6 +33,21 @@ rel_reads at a inv args facts c answer e h = rw e (reads_where (leave a inv args
 pub rmw_reads : (at a : Combination) (inv : ℕ) (args : List Combination) (facts : List Fact) (c : Chunk) (answer : Bool) → c ≡ chunk.RmwAcq a inv args
     → answer ≡ (proves_equal facts a at) → answer ≡ is_some (rmw_at at facts c)
 rmw_reads at a inv args facts c answer e h = rw e (reads_where (leave a inv args) answer (proves_equal facts a at) h)
+
+pub rel_of_reads : (l : Leave) (a : Combination) (inv : ℕ) (args : List Combination) (facts : List Fact) (c : Chunk) (answer : Bool) → c ≡ chunk.Rel a inv args
+    → answer ≡ same_leave facts (leave a inv args) l → answer ≡ is_some (rel_of l facts c)
+rel_of_reads l a inv args facts c answer e h = rw e (reads_where (leave a inv args) answer (same_leave facts (leave a inv args) l) h)
+
+pub rmw_of_reads : (l : Leave) (a : Combination) (inv : ℕ) (args : List Combination) (facts : List Fact) (c : Chunk) (answer : Bool) → c ≡ chunk.RmwAcq a inv args
+    → answer ≡ same_leave facts (leave a inv args) l → answer ≡ is_some (rmw_of l facts c)
+rmw_of_reads l a inv args facts c answer e h = rw e (reads_where (leave a inv args) answer (same_leave facts (leave a inv args) l) h)
+
+pub permission_reads : (p : Permission) (a : Combination) (inv : ℕ) (args : List Combination) (part : ℕ) (out : List Combination) (facts : List Fact) (c : Chunk) (answer : Bool)
+    → c ≡ chunk.Acq a inv args part out
+    → answer ≡ (same_leave facts (leave a inv args) p.leave && (part == p.part && excludes_no_more facts out p.out)) → answer ≡ is_some (permission_of p facts c)
+permission_reads p a inv args part out facts c answer e h =
+    rw e (reads_where (record { leave = leave a inv args; part = part; out = out }) answer
+    (same_leave facts (leave a inv args) p.leave && (part == p.part && excludes_no_more facts out p.out)) h)
 
 pub tokens_read : (g bank n : Combination) (facts : List Fact) (c : Chunk) (answer : Bool) → c ≡ chunk.Tok bank n
     → answer ≡ (proves_equal facts bank g) → answer ≡ is_some (tokens_of g facts c)

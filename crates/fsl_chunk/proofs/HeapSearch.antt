@@ -5,13 +5,13 @@ use Rattle.std.specs.Prelude.{if◌then◌else◌, is_some, slice_get}
 use Rattle.fsl_core.specs.declared.chunk.Chunk.{Chunk}
 use Rattle.fsl_core.specs.declared.chunk.Chunk.TheVariants as chunk
 use Rattle.fsl_core.specs.declared.mode.Rung.{Rung}
-use Rattle.fsl_core.specs.logic.Chunks.{Found, found, first, when, same_rung, cell_at, enough_at, init_at, rel_at, rmw_at, tokens_of, authority_of}
+use Rattle.fsl_core.specs.logic.Chunks.{Found, found, first, when, same_rung}
 use Rattle.fsl_lin.specs.declared.fact.Fact.{Fact}
 use Rattle.fsl_chunk.specs.declared.kind.ChunkKind.{ChunkKind}
 use Rattle.fsl_chunk.specs.declared.want.Want.{Want}
 use Rattle.fsl_chunk.specs.declared.want.Want.TheVariants as want
 use Rattle.fsl_chunk.specs.Kind.{is_of, numbers_from, numbers_of}
-use Rattle.fsl_chunk.specs.Fits.{found_number, sought, fits, kind_sought, rung_sought}
+use Rattle.fsl_chunk.specs.Fits.{found_number, reading, sought, fits, kind_sought, rung_sought}
 use Rattle.fsl_chunk.proofs.FoundItems.{get_middle}
 
 -- ---- the first of some numbers
@@ -71,13 +71,16 @@ first_number reads cs = shift_none (found_number (first reads cs)) ∙ number_fr
 -- ---- what is sought
 
 sought_is : (w : Want) (facts : List Fact) (cs : List Chunk) → sought w facts cs ≡ position_from 0 (fits w facts) cs
-sought_is (want.Points rung at) facts cs = first_number (cell_at rung at.now facts) cs
-sought_is (want.Enough rung at share) facts cs = first_number (enough_at rung at.now share.now facts) cs
-sought_is (want.Init rung at) facts cs = first_number (init_at rung at.now facts) cs
-sought_is (want.Rel at) facts cs = first_number (rel_at at.now facts) cs
-sought_is (want.RmwAcq at) facts cs = first_number (rmw_at at.now facts) cs
-sought_is (want.Tok bank) facts cs = first_number (tokens_of bank.now facts) cs
-sought_is (want.Auth bank) facts cs = first_number (authority_of bank.now facts) cs
+sought_is (want.Points rung at) facts cs = first_number (reading (want.Points rung at) facts) cs
+sought_is (want.Enough rung at share) facts cs = first_number (reading (want.Enough rung at share) facts) cs
+sought_is (want.Init rung at) facts cs = first_number (reading (want.Init rung at) facts) cs
+sought_is (want.Rel at) facts cs = first_number (reading (want.Rel at) facts) cs
+sought_is (want.RmwAcq at) facts cs = first_number (reading (want.RmwAcq at) facts) cs
+sought_is (want.RelOf l) facts cs = first_number (reading (want.RelOf l) facts) cs
+sought_is (want.RmwOf l) facts cs = first_number (reading (want.RmwOf l) facts) cs
+sought_is (want.AcqOf l part out) facts cs = first_number (reading (want.AcqOf l part out) facts) cs
+sought_is (want.Tok bank) facts cs = first_number (reading (want.Tok bank) facts) cs
+sought_is (want.Auth bank) facts cs = first_number (reading (want.Auth bank) facts) cs
 
 no_rung : {X : Type 0} (b t : Bool) (x : X) → b ≡ false → is_some (when (b && t) x) ≡ false
 no_rung b t x h = ap (λ a. is_some (when (a && t) x)) h
@@ -119,6 +122,27 @@ only_of (want.RmwAcq at) facts (chunk.Acq a inv args part out) h = refl
 only_of (want.RmwAcq at) facts (chunk.RmwAcq a inv args) h = absurd cc
 only_of (want.RmwAcq at) facts (chunk.Tok bank n) h = refl
 only_of (want.RmwAcq at) facts (chunk.Auth bank n) h = refl
+only_of (want.RelOf l) facts (chunk.Points r a share value) h = refl
+only_of (want.RelOf l) facts (chunk.Init r a) h = refl
+only_of (want.RelOf l) facts (chunk.Rel a inv args) h = absurd cc
+only_of (want.RelOf l) facts (chunk.Acq a inv args part out) h = refl
+only_of (want.RelOf l) facts (chunk.RmwAcq a inv args) h = refl
+only_of (want.RelOf l) facts (chunk.Tok bank n) h = refl
+only_of (want.RelOf l) facts (chunk.Auth bank n) h = refl
+only_of (want.RmwOf l) facts (chunk.Points r a share value) h = refl
+only_of (want.RmwOf l) facts (chunk.Init r a) h = refl
+only_of (want.RmwOf l) facts (chunk.Rel a inv args) h = refl
+only_of (want.RmwOf l) facts (chunk.Acq a inv args part out) h = refl
+only_of (want.RmwOf l) facts (chunk.RmwAcq a inv args) h = absurd cc
+only_of (want.RmwOf l) facts (chunk.Tok bank n) h = refl
+only_of (want.RmwOf l) facts (chunk.Auth bank n) h = refl
+only_of (want.AcqOf l p o) facts (chunk.Points r a share value) h = refl
+only_of (want.AcqOf l p o) facts (chunk.Init r a) h = refl
+only_of (want.AcqOf l p o) facts (chunk.Rel a inv args) h = refl
+only_of (want.AcqOf l p o) facts (chunk.Acq a inv args part out) h = absurd cc
+only_of (want.AcqOf l p o) facts (chunk.RmwAcq a inv args) h = refl
+only_of (want.AcqOf l p o) facts (chunk.Tok bank n) h = refl
+only_of (want.AcqOf l p o) facts (chunk.Auth bank n) h = refl
 only_of (want.Tok g) facts (chunk.Points r a share value) h = refl
 only_of (want.Tok g) facts (chunk.Init r a) h = refl
 only_of (want.Tok g) facts (chunk.Rel a inv args) h = refl

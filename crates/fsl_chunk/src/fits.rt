@@ -1,12 +1,16 @@
 //! Whether a chunk is what is sought.
-ghost use Rattle.std.specs.Prelude.{◌≡◌, ◌&&◌, false, pos, is_some};
+ghost use Rattle.std.specs.Prelude.{◌≡◌, ◌==◌, ◌&&◌, false, pos, is_some};
+ghost use Rattle.std.specs.List.{list_any};
 ghost use Rattle.fsl_lin.specs.Facts.{absurd_facts};
-ghost use Rattle.fsl_core.specs.logic.Chunks.{same_rung, cell_at, enough_at, init_at, rel_at, rmw_at, tokens_of, authority_of};
+ghost use Rattle.fsl_core.specs.logic.Chunks.{same_rung, cell_at, enough_at, init_at, leave, all_equal, same_leave, rel_at, rmw_at, rel_of, rmw_of, tokens_of, authority_of};
+ghost use Rattle.fsl_core.specs.logic.Consuming.{excludes_no_more, permission_of};
 ghost use Rattle.fsl_core.specs.logic.Deciding.{proves_equal, proves_at_most};
-ghost use Rattle.fsl_chunk.specs.Fits.{fits, kind_sought, rung_sought};
+ghost use Rattle.fsl_chunk.specs.Fits.{leave_of, permission, fits, kind_sought, rung_sought};
 
 use crate::kind::{ChunkKind, same_rung};
+use crate::leave::Leave;
 use crate::want::Want;
+use fsl_base::List;
 use fsl_core::{Chunk, Rung};
 use fsl_lin::Lin;
 use fsl_pure::Pure;
@@ -18,8 +22,9 @@ pub fn kind_sought(want: &Want<'_, '_>) -> ChunkKind
     match *want {
         Want::Points { .. } | Want::Enough { .. } => ChunkKind::Points,
         Want::Init { .. } => ChunkKind::Init,
-        Want::Rel { .. } => ChunkKind::Rel,
-        Want::RmwAcq { .. } => ChunkKind::RmwAcq,
+        Want::Rel { .. } | Want::RelOf { .. } => ChunkKind::Rel,
+        Want::AcqOf { .. } => ChunkKind::Acq,
+        Want::RmwAcq { .. } | Want::RmwOf { .. } => ChunkKind::RmwAcq,
         Want::Tok { .. } => ChunkKind::Tok,
         Want::Auth { .. } => ChunkKind::Auth,
     }
@@ -31,8 +36,13 @@ pub fn rung_sought(want: &Want<'_, '_>) -> Rung
 {
     match *want {
         Want::Points { rung, .. } | Want::Enough { rung, .. } | Want::Init { rung, .. } => rung,
-        Want::Rel { .. } | Want::RmwAcq { .. } | Want::Tok { .. } | Want::Auth { .. } =>
-            Rung::Plain,
+        Want::Rel { .. }
+        | Want::RmwAcq { .. }
+        | Want::RelOf { .. }
+        | Want::RmwOf { .. }
+        | Want::AcqOf { .. }
+        | Want::Tok { .. }
+        | Want::Auth { .. } => Rung::Plain,
     }
 }
 
@@ -47,6 +57,9 @@ pub fn fits(pure: &Pure, want: &Want<'_, '_>, chunk: &Chunk) -> bool
         Want::Init { rung, at } => is_init(pure, rung, at, chunk),
         Want::Rel { at } => is_rel(pure, at, chunk),
         Want::RmwAcq { at } => is_rmw(pure, at, chunk),
+        Want::RelOf { leave } => is_rel_of(pure, leave, chunk),
+        Want::RmwOf { leave } => is_rmw_of(pure, leave, chunk),
+        Want::AcqOf { leave, part, out } => is_permission(pure, leave, part, out, chunk),
         Want::Tok { bank } => is_tokens(pure, bank, chunk),
         Want::Auth { bank } => is_authority(pure, bank, chunk),
     }
@@ -112,6 +125,45 @@ fn is_rmw(pure: &Pure, at: &Lin, chunk: &Chunk) -> bool
     }
 }
 
+/// Whether a chunk is this leave to write.
+fn is_rel_of(pure: &Pure, leave: &Leave, chunk: &Chunk) -> bool
+    requires { absurd_facts pure.now.facts ≡ false }
+    ensures { result ≡ is_some (rel_of (leave_of leave.now) pure.now.facts chunk.now) }
+{
+    match chunk {
+        Chunk::Rel { at, inv, args } => same_leave(pure, at, *inv, args, leave),
+        _ => false,
+    }
+}
+
+/// Whether a chunk is this leave to read-modify-write.
+fn is_rmw_of(pure: &Pure, leave: &Leave, chunk: &Chunk) -> bool
+    requires { absurd_facts pure.now.facts ≡ false }
+    ensures { result ≡ is_some (rmw_of (leave_of leave.now) pure.now.facts chunk.now) }
+{
+    match chunk {
+        Chunk::RmwAcq { at, inv, args } => same_leave(pure, at, *inv, args, leave),
+        _ => false,
+    }
+}
+
+/// Whether a chunk is leave to acquire this part, and excludes no other values than these.
+fn is_permission(pure: &Pure, leave: &Leave, part: u32, out: &List<Lin>, chunk: &Chunk) -> bool
+    requires { absurd_facts pure.now.facts ≡ false }
+    ensures { result ≡ is_some (permission_of (permission leave.now part out.now) pure.now.facts chunk.now) }
+{
+    match chunk {
+        Chunk::Acq {
+            at,
+            inv,
+            args,
+            part: p,
+            out: held,
+        } => grants(pure, at, *inv, args, *p, held, leave, part, out),
+        _ => false,
+    }
+}
+
 /// Whether a chunk holds tokens of a bank.
 fn is_tokens(pure: &Pure, bank: &Lin, chunk: &Chunk) -> bool
     requires { absurd_facts pure.now.facts ≡ false }
@@ -148,6 +200,70 @@ fn holds(pure: &Pure, held: Rung, a: &Lin, has: &Lin, rung: Rung, at: &Lin, shar
     ensures { result ≡ (same_rung held rung && (proves_equal pure.now.facts a.now at.now && proves_at_most pure.now.facts share.now (pos 0) has.now)) }
 {
     same_rung(held, rung) && equal(pure, a, at) && at_most(pure, share, has)
+}
+
+/// Whether leave to acquire this part, but for the values that it holds, is another such leave with these values.
+fn grants(
+    pure: &Pure,
+    at: &Lin,
+    inv: u32,
+    args: &List<Lin>,
+    held_part: u32,
+    held: &List<Lin>,
+    other: &Leave,
+    part: u32,
+    out: &List<Lin>,
+) -> bool
+    requires { absurd_facts pure.now.facts ≡ false }
+    ensures { result ≡ (same_leave pure.now.facts (leave at.now inv args.now) (leave_of other.now) && (held_part == part && excludes_no_more pure.now.facts held.now out.now)) }
+{
+    same_leave(pure, at, inv, args, other)
+        && held_part == part
+        && excludes_no_more(pure, held.as_slice(), out.as_slice())
+}
+
+/// Whether leave of this location, invariant and arguments is another leave.
+fn same_leave(pure: &Pure, at: &Lin, inv: u32, args: &List<Lin>, other: &Leave) -> bool
+    requires { absurd_facts pure.now.facts ≡ false }
+    ensures { result ≡ same_leave pure.now.facts (leave at.now inv args.now) (leave_of other.now) }
+{
+    equal(pure, at, &other.at)
+        && inv == other.inv
+        && all_equal(pure, args.as_slice(), other.args.as_slice())
+}
+
+/// Whether terms are proved equal, one by one.
+fn all_equal(pure: &Pure, xs: &[Lin], ys: &[Lin]) -> bool
+    requires { absurd_facts pure.now.facts ≡ false }
+    ensures { result ≡ all_equal pure.now.facts xs.now ys.now }
+{
+    match (xs.split_first(), ys.split_first()) {
+        (Some((x, xs)), Some((y, ys))) => equal(pure, x, y) && all_equal(pure, xs, ys),
+        (None, None) => true,
+        _ => false,
+    }
+}
+
+/// Whether each term is proved equal to one of those that are written.
+fn excludes_no_more(pure: &Pure, out: &[Lin], written: &[Lin]) -> bool
+    requires { absurd_facts pure.now.facts ≡ false }
+    ensures { result ≡ excludes_no_more pure.now.facts out.now written.now }
+{
+    match out.split_first() {
+        Some((x, xs)) => is_among(pure, x, written) && excludes_no_more(pure, xs, written),
+        None => true,
+    }
+}
+
+/// Whether a term is proved equal to one of several.
+fn is_among(pure: &Pure, x: &Lin, terms: &[Lin]) -> bool
+    requires { absurd_facts pure.now.facts ≡ false }
+    ensures { result ≡ list_any (λ y. proves_equal pure.now.facts x.now y) terms.now }
+{
+    match terms.split_first() {
+        Some((y, ys)) => equal(pure, x, y) || is_among(pure, x, ys),
+        None => false,
+    }
 }
 
 /// Whether two terms are proved equal.

@@ -1,7 +1,7 @@
 use Rattle.std.proofs.Common.{◌≡◌, ◌∷◌, ◌+◌, drop, refl, ap, ◌∙◌}
 use Rattle.std.proofs.Math.ListN.{drop_of_length-le}
 use Rattle.fsl_asrt.specs.Branch.{bounds}
-use Rattle.fsl_asrt.proofs.WalkLemmas.{level_of_choice, first_choice, next_item, rest_supported, part_done, parts_done}
+use Rattle.fsl_asrt.proofs.WalkLemmas.{level_of_choice, first_choice, next_item, part_done, parts_done}
 use Rattle.fsl_core.specs.logic.Assertions.{asrt_of, choice}
 use Rattle.fsl_core.specs.logic.Terms.{expr_of}
 use Rattle.fsl_core.specs.logic.Deciding.{cond_of}
@@ -30,15 +30,12 @@ walk-loop-part-preserved t c =
     let i = c.loop-part.part-index in
     let part = c.part-item.result in
     let d : drop i parts ≡ part ∷ drop (i + 1) parts = next_item parts i part c.loop-part-test.true c.part-item.is in
-    record {
-      supported = rest_supported (drop i parts) (drop (i + 1) parts) part d c.loop-part.invariant.supported;
-      so_far = part_done c.args.way c.args.rung (drop i parts) (drop (i + 1) parts) part (bounds c.loop-part.branches) (bounds c.in_ok-branches-in-Both-2.branches)
-          (by_way c.args.way (asrt_of c.args.a.now) c.args.rung c.args.env c.args.state) d c.in_ok-branches-in-Both-2.ensures c.loop-part.invariant.so_far;
-    }
+    part_done c.args.way c.args.rung (drop i parts) (drop (i + 1) parts) part (bounds c.loop-part.branches) (bounds c.in_ok-branches-in-Both-2.branches)
+    (by_way c.args.way (asrt_of c.args.a.now) c.args.rung c.args.env c.args.state) d c.in_ok-branches-in-Both-2.ensures c.loop-part.invariant
 
 pub walk-returns-after-loop-part : goal.walk-returns-after-loop-part
 walk-returns-after-loop-part t c =
     let parts = c.as_slice-part-items.result.now in
     let i = c.loop-part.part-index in
     parts_done c.args.way c.args.rung (drop i parts) (bounds c.loop-part.branches)
-    (by_way c.args.way (asrt_of c.args.a.now) c.args.rung c.args.env c.args.state) (drop_of_length-le parts c.loop-part-test.false) c.loop-part.invariant.so_far
+    (by_way c.args.way (asrt_of c.args.a.now) c.args.rung c.args.env c.args.state) (drop_of_length-le parts c.loop-part-test.false) c.loop-part.invariant

@@ -1,10 +1,8 @@
-use Rattle.std.proofs.Common.{◌≡◌, ◌+◌, ◌*◌, ◌++◌, true, drop, map}
-use Rattle.std.specs.List.{list_all}
+use Rattle.std.proofs.Common.{◌≡◌, ◌+◌, ◌*◌, ◌++◌, drop, map}
 use Rattle.fsl_core.specs.logic.States.{followed}
 use Rattle.fsl_core.specs.logic.Producing.{chosen}
 use Rattle.fsl_core.specs.logic.Assertions.{asrt_of}
 use Rattle.fsl_asrt.specs.Branch.{bounds, decided}
-use Rattle.fsl_asrt.specs.Supported.{is_supported}
 use Rattle.fsl_asrt.specs.Walk.{by_way, all_by}
 use Rattle.fsl_asrt.proofs.walk.+walk.Given as goal
 
@@ -24,11 +22,9 @@ invariant-walk-loop-branch l = record {
 }
 
 abbrev pub invariant-walk-loop-part : goal.invariant-walk-loop-part
-invariant-walk-loop-part l = record {
-  supported : list_all (λ part. part) (map is_supported (drop l.part-index l.part-items)) ≡ true;
-  so_far : followed (bounds l.branches) (all_by l.way (map asrt_of (drop l.part-index l.part-items)) l.rung)
-      ≡ by_way l.way (asrt_of l.a) l.rung l.fn.env l.fn.state;
-}
+invariant-walk-loop-part l =
+    followed (bounds l.branches) (all_by l.way (map asrt_of (drop l.part-index l.part-items)) l.rung)
+    ≡ by_way l.way (asrt_of l.a) l.rung l.fn.env l.fn.state
 
 abbrev pub invariant-each-loop-branch : goal.invariant-each-loop-branch
 invariant-each-loop-branch l = record {
