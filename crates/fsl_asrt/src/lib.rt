@@ -22,7 +22,7 @@ pub use asked::read;
 pub use branch::{Bound, Branch, Decided};
 pub use cells::{FoundCell, cell_at};
 pub use deciding::{assume_cond, decide, decide_cond, demand_cond};
-pub use join::FULL;
+pub use join::{FULL, add_cell, assume_share};
 pub use supported::is_supported;
 pub use terms::{constant, term};
 pub use walk::{consume, produce};
