@@ -3,5 +3,22 @@
 #![tactic(auto)]
 
 mod accesses;
+mod args;
+mod branches;
+mod fences;
+mod initial;
+mod loading;
+mod located;
+mod location;
+mod modes;
+mod permissions;
+mod pieces;
+mod storing;
 
-pub use accesses::{alloc_na, load_na, store_na};
+pub use accesses::{alloc_na, free, load_na, store_na};
+pub use branches::{failing, going, set_on_each, without_env};
+pub use fences::fence;
+pub use loading::load;
+pub use located::alloc_at;
+pub use pieces::{are_supported_invs, padded};
+pub use storing::store;

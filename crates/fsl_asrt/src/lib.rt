@@ -30,7 +30,7 @@ pub use branch::{Bound, Branch, Decided};
 pub use cells::{FoundCell, cell_at};
 pub use claims::{add_init, add_rel, add_rmw};
 pub use deciding::{assume_cond, decide, decide_cond, demand_cond};
-pub use join::FULL;
+pub use join::{FULL, add_cell, assume_share};
 pub use leaves::{all_terms, leave};
 pub use supported::is_supported;
 pub use terms::{constant, term};

@@ -15,8 +15,10 @@ use Rattle.fsl_core.specs.logic.States.{State, goes, fails, Branches}
 use Rattle.fsl_core.specs.logic.Terms.{expr_of}
 use Rattle.fsl_core.specs.logic.Deciding.{cond_of}
 use Rattle.fsl_core.specs.logic.Joining.{nought}
-use Rattle.fsl_core.specs.logic.Producing.{chosen}
+use Rattle.fsl_core.specs.logic.Producing.{chosen, inst_of}
 use Rattle.fsl_core.specs.logic.Assertions.{asrt_of}
+use Rattle.fsl_core.specs.logic.Accesses.{alloc_at, load, store}
+use Rattle.fsl_core.specs.logic.Fences.{fence}
 use Rattle.fsl_core.specs.logic.Calls.{finish, call, call_of, par}
 use Rattle.fsl_core.specs.logic.Locations.{setting_of}
 use Rattle.fsl_core.specs.logic.Slots.{past}
@@ -103,6 +105,18 @@ act_follows job stmt declared s left f h (Act-F.Call slot proc args) is k =
     (omega arith) (λ x t. record { lighter = omega arith; supported = k })
 act_follows job stmt declared s left f h (Act-F.Par calls) is k =
     items_follow (continuation_weight left + 0 + 2) stmt.span (par (setting_of asrt_of job.program.now) (map (call_of expr_of) calls) s) (λ x t. goes_on t left)
+    (omega arith) (λ x t. record { lighter = omega arith; supported = k })
+act_follows job stmt declared s left f h (Act-F.AllocAt slot rmw inst) is k =
+    items_follow (continuation_weight left + 0 + 2) stmt.span (alloc_at (setting_of asrt_of job.program.now) slot rmw (inst_of expr_of inst) s) (λ x t. goes_on t left)
+    (omega arith) (λ x t. record { lighter = omega arith; supported = k })
+act_follows job stmt declared s left f h (Act-F.Load slot mode at) is k =
+    items_follow (continuation_weight left + 0 + 2) stmt.span (load (setting_of asrt_of job.program.now) slot mode (expr_of at) s) (λ x t. goes_on t left)
+    (omega arith) (λ x t. record { lighter = omega arith; supported = k })
+act_follows job stmt declared s left f h (Act-F.Store mode at e) is k =
+    items_follow (continuation_weight left + 0 + 2) stmt.span (store (setting_of asrt_of job.program.now) mode (expr_of at) (expr_of e) s) (λ x t. goes_on t left)
+    (omega arith) (λ x t. record { lighter = omega arith; supported = k })
+act_follows job stmt declared s left f h (Act-F.Fence mode asrt) is k =
+    items_follow (continuation_weight left + 0 + 2) stmt.span (fence mode (asrt_of asrt) s) (λ x t. goes_on t left)
     (omega arith) (λ x t. record { lighter = omega arith; supported = k })
 act_follows job stmt declared s left f h _ is k =
     items_follow (continuation_weight left + 0 + 2) stmt.span (action_of stmt.act s) (λ x t. goes_on t left) (omega arith)

@@ -6,8 +6,8 @@ use Rattle.fsl_core.specs.declared.act.Act.TheFolds.{fold_out-Stmt}
 use Rattle.fsl_core.specs.declared.act.Stmt.{Stmt}
 use Rattle.fsl_core.specs.declared.declaration.Proc.{Proc}
 use Rattle.fsl_core.specs.Programs.{Program}
-use Rattle.fsl_core.specs.Straight.{is_empty}
 use Rattle.fsl_asrt.specs.Supported as assertions
+use Rattle.fsl_access.specs.Pieces.{are_supported_invs}
 use Rattle.fsl_flow.specs.Supported.{supported_step, is_supported_act, is_supported_stmt, are_supported, is_supported_proc, is_supported}
 
 all_at : {X : Type 0} (f : X → Bool) (xs : List X) (i : ℕ) (x : X) → list_all f xs ≡ true → i < length xs → x ≡ get_or xs i x → f x ≡ true
@@ -16,10 +16,13 @@ all_at f (y ∷ ys) zero x h k e = rw e ((and_parts (f y) (list_all f ys) h).0)
 all_at f (y ∷ ys) (suc i) x h k e = all_at f ys i x ((and_parts (f y) (list_all f ys) h).1) (omega arith) e
 
 pub proc_supported : (p : Program) (i : ℕ) (q : Proc) → is_supported p ≡ true → i < length p.procs → q ≡ get_or p.procs i q → is_supported_proc q ≡ true
-proc_supported p i q h k e = all_at is_supported_proc p.procs i q ((and_parts (is_empty p.invs) (list_all is_supported_proc p.procs) h).1) k e
+proc_supported p i q h k e = all_at is_supported_proc p.procs i q ((and_parts (are_supported_invs p.invs) (list_all is_supported_proc p.procs) h).1) k e
 
 pub procs_supported : (p : Program) → is_supported p ≡ true → list_all is_supported_proc p.procs ≡ true
-procs_supported p h = (and_parts (is_empty p.invs) (list_all is_supported_proc p.procs) h).1
+procs_supported p h = (and_parts (are_supported_invs p.invs) (list_all is_supported_proc p.procs) h).1
+
+pub invs_supported : (p : Program) → is_supported p ≡ true → are_supported_invs p.invs ≡ true
+invs_supported p h = (and_parts (are_supported_invs p.invs) (list_all is_supported_proc p.procs) h).0
 
 pub head_supported : (stmt : Stmt) (stmts : List Stmt) → are_supported (stmt ∷ stmts) ≡ true → is_supported_act stmt.act ≡ true
 head_supported stmt stmts h = sym (fold_out-Stmt Bool Bool supported_step (λ s. s.act) stmt) ∙ (and_parts (is_supported_stmt stmt) (are_supported stmts) h).0

@@ -3,6 +3,7 @@ use Rattle.std.proofs.Common.{◌≡◌, ℕ, Bool, true, ◌&&◌, List, [], �
 use Rattle.std.specs.List.{list_all}
 use Rattle.std.proofs.lemmas.Bool.{and_parts}
 use Rattle.fsl_asrt.specs.Supported as assertions
+use Rattle.fsl_access.specs.Pieces.{are_supported_invs}
 use Rattle.fsl_core.specs.declared.act.Act.{Act}
 use Rattle.fsl_core.specs.declared.act.Act.TheFolds.{fold-Stmt, fold_out-Act, fold_out-Stmt, map-Act}
 use Rattle.fsl_core.specs.declared.act.Act.TheOpen.{Act-F}
@@ -14,6 +15,7 @@ use Rattle.fsl_core.specs.declared.assertion.Asrt.TheOpen.{Asrt-F}
 use Rattle.fsl_core.specs.declared.assertion.Asrt.TheViews.{out-Asrt}
 use Rattle.fsl_core.specs.declared.mode.Mode.TheVariants.{Na}
 use Rattle.fsl_core.specs.declared.declaration.Proc.{Proc}
+use Rattle.fsl_core.specs.declared.declaration.Inv.{Inv}
 use Rattle.fsl_core.specs.Programs.{Program}
 use Rattle.fsl_core.specs.Straight.{Test, straight_step, is_straight_act, emp_step, is_emp, is_straight_proc, is_one_straight, is_straight, is_empty}
 use Rattle.fsl_flow.specs.Supported.{supported_step, is_supported_act, is_supported_stmt, are_supported, is_supported_proc, is_supported}
@@ -66,7 +68,11 @@ procs_supported [] is = cc
 procs_supported (q ∷ []) is = both _ _ (proc_supported q is) refl
 procs_supported (q ∷ (r ∷ rs)) is = cc
 
+invs_supported : (invs : List Inv) → is_empty invs ≡ true → are_supported_invs invs ≡ true
+invs_supported [] is = refl
+invs_supported (inv ∷ invs) is = absurd cc
+
 pub supported : (p : Program) → is_straight p ≡ true → is_supported p ≡ true
 supported p is =
     let parts = and_parts (is_empty p.invs) (is_one_straight p.procs) is in
-    both (is_empty p.invs) (list_all is_supported_proc p.procs) parts.0 (procs_supported p.procs parts.1)
+    both (are_supported_invs p.invs) (list_all is_supported_proc p.procs) (invs_supported p.invs parts.0) (procs_supported p.procs parts.1)

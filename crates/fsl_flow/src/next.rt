@@ -3,6 +3,7 @@ ghost use Rattle.std.specs.Prelude.{◌≡◌, map, IfOk, IsTrue};
 ghost use Rattle.std.specs.List.{list_all};
 ghost use Rattle.fsl_asrt.specs.Supported as assertions;
 ghost use Rattle.fsl_flow.specs.Supported.{is_supported_act, are_supported, is_supported_proc};
+ghost use Rattle.fsl_access.specs.Pieces.{are_supported_invs};
 ghost use Rattle.fsl_flow.specs.Continuation.{leaving_of, continuation_of};
 ghost use Rattle.fsl_flow.specs.Pending.{item_of, goes_on};
 ghost use Rattle.fsl_flow.specs.Next.{next, next_exit, next_turn, next_block, next_stmt};
@@ -17,6 +18,7 @@ use crate::par::par;
 use crate::pending::{Pending, each, each_end, each_side, one};
 use crate::sets::past;
 use crate::statements::{is_simple, step};
+use fsl_access::{alloc_at, fence, load, store};
 use fsl_base::List;
 use fsl_chunk::State;
 use fsl_core::{Act, Stmt};
@@ -32,6 +34,7 @@ pub fn next<'a>(
 ) -> Result<List<Pending<'a>>, AllocError>
     requires post { IsTrue (assertions.is_supported job.now.proc.now.post) }
     requires procs { IsTrue (list_all is_supported_proc job.now.program.now.procs) }
+    requires invs { IsTrue (are_supported_invs job.now.program.now.invs) }
     requires continuation { IsTrue (is_supported_continuation (continuation_of continuation)) }
     ensures { IfOk result (λ ps. map item_of ps ≡ next job.now (goes_on state (continuation_of continuation.entry))) }
 {
@@ -113,6 +116,7 @@ fn block<'a>(
 ) -> Result<List<Pending<'a>>, AllocError>
     requires post { IsTrue (assertions.is_supported job.now.proc.now.post) }
     requires procs { IsTrue (list_all is_supported_proc job.now.program.now.procs) }
+    requires invs { IsTrue (are_supported_invs job.now.program.now.invs) }
     requires stmts { IsTrue (are_supported stmts.now) }
     ensures { IfOk result (λ ps. map item_of ps ≡ next_block job.now state stmts.now declared (continuation_of up.entry)) }
 {
@@ -146,6 +150,7 @@ fn statement<'a>(
 ) -> Result<List<Pending<'a>>, AllocError>
     requires post { IsTrue (assertions.is_supported job.now.proc.now.post) }
     requires procs { IsTrue (list_all is_supported_proc job.now.program.now.procs) }
+    requires invs { IsTrue (are_supported_invs job.now.program.now.invs) }
     requires supported { IsTrue (is_supported_act stmt.now.act) }
     ensures { IfOk result (λ ps. map item_of ps ≡ next_stmt job.now stmt.now declared state (continuation_of continuation.entry)) }
 {
@@ -154,6 +159,22 @@ fn statement<'a>(
         return one(alloc, stmt.span, went, continuation);
     }
     match &stmt.act {
+        Act::AllocAt { slot, rmw, inst } => {
+            let went = alloc_at(alloc, job.program, state, *slot, *rmw, inst)?;
+            one(alloc, stmt.span, went, continuation)
+        }
+        Act::Load { slot, mode, at } => {
+            let read = load(alloc, job.program, state, *slot, *mode, at)?;
+            each(alloc, stmt.span, read, &continuation)
+        }
+        Act::Store { mode, at, e } => {
+            let written = store(alloc, job.program, state, *mode, at, e)?;
+            each(alloc, stmt.span, written, &continuation)
+        }
+        Act::Fence { mode, asrt } => {
+            let behind = fence(alloc, state, *mode, asrt)?;
+            each(alloc, stmt.span, behind, &continuation)
+        }
         Act::Call { slot, proc, args } => {
             let called = call(alloc, job.program, state, *slot, *proc, args.as_slice())?;
             each(alloc, stmt.span, called, &continuation)

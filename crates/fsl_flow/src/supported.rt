@@ -3,7 +3,8 @@ ghost use Rattle.std.specs.Prelude.{◌≡◌};
 ghost use Rattle.std.specs.List.{list_all};
 ghost use Rattle.fsl_flow.specs.Supported.{is_supported_act, are_supported, is_supported_proc, is_supported};
 
-use fsl_core::{Act, Mode, Proc, Program, Stmt};
+use fsl_access::are_supported_invs;
+use fsl_core::{Act, Proc, Program, Stmt};
 
 /// Whether an act is followed so far, with the statements inside it.
 #[cycle(supported)]
@@ -13,8 +14,11 @@ fn is_supported_act(act: &Act) -> bool
     match act {
         Act::Set { .. } => true,
         Act::AllocNa { .. } => true,
-        Act::Load { mode: Mode::Na, .. } => true,
-        Act::Store { mode: Mode::Na, .. } => true,
+        Act::AllocAt { .. } => true,
+        Act::Free { .. } => true,
+        Act::Load { .. } => true,
+        Act::Store { .. } => true,
+        Act::Fence { asrt, .. } => fsl_asrt::is_supported(asrt),
         Act::Call { .. } => true,
         Act::Par { .. } => true,
         Act::If { yes, no, .. } => are_supported(yes.as_slice()) && are_supported(no.as_slice()),
@@ -65,5 +69,5 @@ fn are_supported_procs(procs: &[Proc]) -> bool
 pub fn is_supported(p: &Program) -> bool
     ensures { result ≡ is_supported p.now }
 {
-    p.invs().is_empty() && are_supported_procs(p.procs())
+    are_supported_invs(p.invs()) && are_supported_procs(p.procs())
 }

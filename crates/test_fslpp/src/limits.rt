@@ -59,7 +59,7 @@ const USES: [(&str, &str); 20] = [
     ),
     (
         "inv I() of v { emp } { emp } { emp } { emp } { emp } { emp } { emp } { emp } proc main() { }",
-        "refused form\n",
+        "accepted 1\n",
     ),
     (
         "inv I() of v { emp } { emp } { emp } { emp } { emp } { emp } { emp } { emp } { emp } proc main() { }",
@@ -155,7 +155,7 @@ const COUNTS: [(&str, &str); 22] = [
     ),
     (
         "proc main() { let a = alloc na; free(a); }",
-        "refused form\n",
+        "accepted 1\n",
     ),
     (
         "proc main() { let i = 0; while (i < 3) inv (i <= 3) { i = i + 1; } }",
@@ -192,7 +192,7 @@ const LIMITS: [(&str, &str, &str, u32, &str, &str); 16] = [
         "() of v { emp }\n",
         4095,
         "inv last() of v { emp } proc main() { }",
-        "refused form\n",
+        "accepted 1\n",
     ),
     (
         "",
@@ -224,7 +224,7 @@ const LIMITS: [(&str, &str, &str, u32, &str, &str); 16] = [
         ", ",
         15,
         "last) of v { emp } proc main() { }",
-        "refused form\n",
+        "accepted 1\n",
     ),
     (
         "inv f(",
@@ -256,7 +256,7 @@ const LIMITS: [(&str, &str, &str, u32, &str, &str); 16] = [
         " &*& ",
         253,
         "p |-> ?last } proc main() { }",
-        "refused form\n",
+        "accepted 1\n",
     ),
     (
         "inv f(p) of v { ",
@@ -288,7 +288,7 @@ const LIMITS: [(&str, &str, &str, u32, &str, &str); 16] = [
         " } ",
         7,
         "{ 777 == v } proc main() { }",
-        "refused form\n",
+        "accepted 1\n",
     ),
     (
         "inv i() of v ",
