@@ -46,7 +46,8 @@ item_left test zero (y ∷ ys) x h k = let same : x ≡ y = cc in rw (← same, 
 item_left test (suc n) (y ∷ ys) x h k = item_left test n ys x h k
 
 pub kept_end : {X : Type 0} (test : X → Bool) (n : ℕ) (xs : List X) → length xs ≤ n → staying test n xs ≡ xs
-kept_end test n [] h = ?
+kept_end test zero [] h = refl
+kept_end test (suc n) [] h = refl
 kept_end test zero (y ∷ ys) h = absurd (omega arith)
 kept_end test (suc n) (y ∷ ys) h = ap (λ zs. y ∷ zs) (kept_end test n ys (omega arith))
 

@@ -1,5 +1,4 @@
 pub mod AccessesLemmas
-pub mod ArgsLemmas
 pub mod FencesLemmas
 pub mod LoadingLemmas
 pub mod LocatedLemmas

@@ -8,7 +8,6 @@ use Rattle.fsl_core.specs.declared.verdict.Kind.{Kind}
 use Rattle.fsl_core.specs.logic.States.{State, goes, fails, Rule, Branches, followed, ◌>>=◌, demand_some}
 use Rattle.fsl_core.specs.logic.Chunks.{Found, Reading, Leave, leave, first, find_or, when, add, init_at, rel_at}
 use Rattle.fsl_core.specs.logic.Deciding.{proves_equal}
-use Rattle.fsl_core.specs.logic.Joining.{add_once, produce_init}
 use Rattle.fsl_lin.specs.Combination.{Combination}
 use Rattle.fsl_lin.specs.declared.fact.Fact.{Fact}
 use Rattle.fsl_asrt.proofs.Laws.{got, lacked}
@@ -82,32 +81,9 @@ nowhere reads cs h = nowhere_by (first reads cs) h
 
 -- ---- a location that has been written
 
-init_by : (rung : Rung) (at : Combination) (s : State) (o : Option (Found Chunk Combination)) → first (init_at rung at s.facts) s.chunks ≡ o
-    → produce_init rung at s ≡ add_once (chunk.Init rung at) o s
-init_by rung at s o e =
-    append-nil (add_once (chunk.Init rung at) (first (init_at rung at s.facts) s.chunks) s) ∙ ap (λ (p : Option (Found Chunk Combination)). add_once (chunk.Init rung at) p s) e
-
 pub number_found : {X : Type 0} (reads : Chunk → Option X) (cs : List Chunk) → is_some (found_number (first reads cs)) ≡ is_some (first reads cs)
 number_found {X = X} reads cs = by (first reads cs)
   where
     by : (o : Option (Found Chunk X)) → is_some (found_number o) ≡ is_some o
     by None = refl
     by (Some f) = refl
-
-there_by : (rung : Rung) (at : Combination) (s : State) (o : Option (Found Chunk Combination)) → first (init_at rung at s.facts) s.chunks ≡ o
-    → is_some o ≡ true → goes tt s ∷ [] ≡ produce_init rung at s
-there_by rung at s None e h = absurd cc
-there_by rung at s (Some f) e h = sym (init_by rung at s (Some f) e)
-
-pub init_there : (rung : Rung) (at : Combination) (s : State) → is_some (first (init_at rung at s.facts) s.chunks) ≡ true
-    → goes tt s ∷ [] ≡ produce_init rung at s
-init_there rung at s h = there_by rung at s (first (init_at rung at s.facts) s.chunks) refl h
-
-new_by : (rung : Rung) (at : Combination) (s : State) (o : Option (Found Chunk Combination)) → first (init_at rung at s.facts) s.chunks ≡ o
-    → is_some o ≡ false → produce_init rung at s ≡ add (chunk.Init rung at) s
-new_by rung at s None e h = init_by rung at s None e
-new_by rung at s (Some f) e h = absurd cc
-
-pub init_new : (rung : Rung) (at : Combination) (s : State) → is_some (first (init_at rung at s.facts) s.chunks) ≡ false
-    → produce_init rung at s ≡ add (chunk.Init rung at) s
-init_new rung at s h = new_by rung at s (first (init_at rung at s.facts) s.chunks) refl h

@@ -1,5 +1,5 @@
 -- The permissions for a location among the chunks.
-use Rattle.std.proofs.Common.{arith, ◌≡◌, ◌≤◌, ◌<◌, ℕ, ◌+◌, Bool, true, false, List, [], ◌∷◌, ◌++◌, length, get_or, drop, slice_get, Option, Some, None, refl, sym, ap, ◌∙◌, append_assoc, append-nil}
+use Rattle.std.proofs.Common.{arith, ◌≡◌, ◌≤◌, ◌<◌, ℕ, zero, suc, ◌+◌, Bool, true, false, List, [], ◌∷◌, ◌++◌, length, get_or, drop, slice_get, Option, Some, None, refl, sym, ap, ◌∙◌, append_assoc, append-nil}
 use Rattle.std.specs.Prelude.{is_some}
 use Rattle.std.proofs.Math.ListN.{drop_of_length-le}
 use Rattle.fsl_core.specs.declared.chunk.Chunk.{Chunk}
@@ -12,7 +12,9 @@ use Rattle.fsl_lin.specs.declared.fact.Fact.{Fact}
 
 -- the chunk at a number, and those behind it
 next_chunk : (cs : List Chunk) (n : ℕ) (c : Chunk) → slice_get cs n ≡ Some c → drop n cs ≡ c ∷ drop (n + 1) cs
-next_chunk cs n c h = ?
+next_chunk [] n c h = absurd cc
+next_chunk (x ∷ xs) zero c h = let same : x ≡ c = cc in ap (λ (y : Chunk). y ∷ xs) same
+next_chunk (x ∷ xs) (suc n) c h = next_chunk xs n c h
 
 placed_one : (o : Option Permission) (n : ℕ) (places : List ℕ) → is_some o ≡ true → placed o n places ≡ n ∷ places
 placed_one (Some x) n places h = refl

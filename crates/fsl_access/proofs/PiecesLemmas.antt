@@ -1,9 +1,7 @@
 -- The parts of an invariant, one after the other.
 use Rattle.std.proofs.Common.{arith, ◌≡◌, ◌≤◌, ◌<◌, ℕ, zero, suc, ◌+◌, ◌-◌, Bool, true, List, [], ◌∷◌, ◌++◌, length, get_or, drop, map, slice_get, replicate, Option, Some, None, refl, sym, ap, ◌∙◌, append_assoc, append-nil, length-append}
-use Rattle.std.specs.List.{list_all}
 use Rattle.std.specs.Option.{option_map}
 use Rattle.std.proofs.Math.ListN.{drop_of_length-le}
-use Rattle.std.proofs.lemmas.Bool.{and_parts}
 use Rattle.std.proofs.lemmas.Option.{slice_get-map}
 use Rattle.fsl_core.specs.declared.assertion.Asrt.{Asrt}
 use Rattle.fsl_core.specs.declared.declaration.Inv.{Inv}
@@ -16,32 +14,10 @@ use Rattle.fsl_core.specs.logic.Joining.{nought}
 use Rattle.fsl_core.specs.logic.Assertions.{asrt_of}
 use Rattle.fsl_core.specs.logic.Locations.{setting_of, Invariant, Piece, padded, pieces_of, parts_at, part_at, consume_parts, produce_part}
 use Rattle.fsl_lin.specs.Combination.{Combination}
-use Rattle.fsl_asrt.specs.Supported.{is_supported}
 use Rattle.fsl_asrt.proofs.Laws.{followed_twice, followed_equal, followed_give}
 use Rattle.fsl_asrt.proofs.WalkLemmas.{next_item}
 use Rattle.fsl_access.proofs.SettingLemmas.{invariant_at}
-use Rattle.fsl_access.specs.Pieces.{is_supported_inv, are_supported_invs, piece_in, parts_in, piece_at, part_consumed}
-
--- ---- what is supported
-
-item_passes : {X : Type 0} (f : X → Bool) (xs : List X) (n : ℕ) (x : X) → list_all f xs ≡ true → Some x ≡ slice_get xs n → f x ≡ true
-item_passes f [] n x h e = absurd cc
-item_passes f (y ∷ ys) zero x h e = let same : x ≡ y = cc in rw same ((and_parts (f y) (list_all f ys) h).0)
-item_passes f (y ∷ ys) (suc n) x h e = item_passes f ys n x ((and_parts (f y) (list_all f ys) h).1) e
-
-pub found_supported : (invs : List Inv) (n : ℕ) (inv : Inv) → are_supported_invs invs ≡ true → Some inv ≡ slice_get invs n → is_supported_inv inv ≡ true
-found_supported invs n inv h e = item_passes is_supported_inv invs n inv h e
-
-pub one_supported : (inv : Inv) (n : ℕ) (a : Asrt) → is_supported_inv inv ≡ true → Some a ≡ slice_get inv.parts n → is_supported a ≡ true
-one_supported inv n a h e = item_passes is_supported inv.parts n a h e
-
-index_passes : {X : Type 0} (f : X → Bool) (xs : List X) (i : ℕ) (x : X) → list_all f xs ≡ true → i < length xs → x ≡ get_or xs i x → f x ≡ true
-index_passes f [] i x h k e = absurd (omega arith)
-index_passes f (y ∷ ys) zero x h k e = rw e ((and_parts (f y) (list_all f ys) h).0)
-index_passes f (y ∷ ys) (suc i) x h k e = index_passes f ys i x ((and_parts (f y) (list_all f ys) h).1) (omega arith) e
-
-pub part_supported : (parts : List Asrt) (i : ℕ) (a : Asrt) → list_all is_supported parts ≡ true → i < length parts → a ≡ get_or parts i a → is_supported a ≡ true
-part_supported parts i a h k e = index_passes is_supported parts i a h k e
+use Rattle.fsl_access.specs.Pieces.{piece_in, parts_in, piece_at, part_consumed}
 
 -- ---- environments with zeros behind what is set
 

@@ -1,12 +1,8 @@
--- Locations of the code as those of the rules, and what a chunk says of one.
-use Rattle.std.specs.Prelude.{List, Option, Some, None}
+-- What a chunk says of a location.
+use Rattle.std.specs.Prelude.{Option, Some, None}
 use Rattle.fsl_core.specs.declared.chunk.Chunk.{Chunk}
 use Rattle.fsl_core.specs.declared.chunk.Chunk.TheVariants as chunk
 use Rattle.fsl_core.specs.logic.Chunks.{Found, Leave, leave}
-use Rattle.fsl_access.specs.declared.location.Location.{Location}
-
-abbrev pub leave_of : Location → Leave
-leave_of l = leave l.at l.inv l.args
 
 -- the location that a chunk is leave to write
 abbrev pub rel_in : Chunk → Option Leave

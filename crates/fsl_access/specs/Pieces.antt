@@ -1,6 +1,5 @@
 -- The parts of the invariants of a program, as the code reads them.
-use Rattle.std.specs.Prelude.{ℕ, Bool, List, [], ◌∷◌, ◌++◌, map, Option, slice_get}
-use Rattle.std.specs.List.{list_all}
+use Rattle.std.specs.Prelude.{ℕ, List, [], ◌∷◌, ◌++◌, map, Option, slice_get}
 use Rattle.fsl_core.specs.declared.assertion.Asrt.{Asrt}
 use Rattle.fsl_core.specs.declared.declaration.Inv.{Inv}
 use Rattle.fsl_core.specs.declared.mode.Rung.{Rung}
@@ -8,18 +7,7 @@ use Rattle.fsl_core.specs.declared.verdict.Mood.TheVariants as mood
 use Rattle.fsl_core.specs.logic.States.{Env, Action, ◌>>=◌, ◌>>◌, done}
 use Rattle.fsl_core.specs.logic.Assertions.{Assertion, asrt_of}
 use Rattle.fsl_core.specs.logic.Locations.{Piece, padded}
-use Rattle.fsl_asrt.specs.Supported.{is_supported}
 use Rattle.fsl_lin.specs.Combination.{Combination}
-
--- ---- invariants whose parts are produced and consumed so far
-
-abbrev pub is_supported_inv : Inv → Bool
-is_supported_inv inv = list_all is_supported inv.parts
-
-abbrev pub are_supported_invs : List Inv → Bool
-are_supported_invs invs = list_all is_supported_inv invs
-
--- ---- parts
 
 abbrev pub piece_in : Env → Assertion → Piece
 piece_in env a = record { asrt = a; env = env }

@@ -8,13 +8,11 @@ ghost use Rattle.fsl_core.specs.logic.Assertions.{asrt_of};
 ghost use Rattle.fsl_core.specs.logic.Fences.{is_at, acquire, release, only, fence};
 ghost use Rattle.fsl_chunk.specs.Went.{branches as went};
 ghost use Rattle.fsl_asrt.specs.Branch.{branches};
-ghost use Rattle.fsl_asrt.specs.Supported.{is_supported};
 ghost use Rattle.fsl_access.specs.Fences.{part_produced};
 
 use crate::branches::{failing, going, without_env};
-use crate::initial::produce_init;
 use crate::modes::{acquires, releases};
-use fsl_asrt::{Branch, add_cell, assume_share, consume, produce};
+use fsl_asrt::{Branch, add_cell, add_init, assume_share, consume, produce};
 use fsl_base::{List, TryClone};
 use fsl_chunk::{Env, State, Went};
 use fsl_core::{Asrt, Chunk, Mode, Mood, Rung};
@@ -28,7 +26,6 @@ pub fn fence(
     mode: Mode,
     a: &Asrt,
 ) -> Result<List<Branch>, AllocError>
-    requires { IsTrue (is_supported a.now) }
     ensures { IfOk result (λ bs. branches bs ≡ fence mode (asrt_of a.now) state) }
 {
     match acquire_where(alloc, state, acquires(mode))? {
@@ -56,7 +53,6 @@ fn release_where(
     releases: bool,
     a: &Asrt,
 ) -> Result<List<Branch>, AllocError>
-    requires { IsTrue (is_supported a.now) }
     ensures { IfOk result (λ bs. branches bs ≡ only releases (release (asrt_of a.now)) state) }
 {
     if releases {
@@ -205,7 +201,7 @@ fn produce_chunk(alloc: Global, state: State, chunk: Chunk) -> Result<Went, Allo
             share,
             value,
         } => produce_cell(alloc, state, rung, at, share, value),
-        Chunk::Init { rung, at } => produce_init(alloc, state, rung, &at),
+        Chunk::Init { rung, at } => add_init(alloc, state, rung, at),
         _ => Ok(Went::Goes { state }),
     }
 }
@@ -231,7 +227,6 @@ fn produce_cell(
 /// An assertion is consumed where it can be used, and produced where relaxed writes take it.
 #[tactic(auto, using(crate::proofs::FencesLemmas::released))]
 fn release(alloc: Global, state: State, a: &Asrt) -> Result<List<Branch>, AllocError>
-    requires { IsTrue (is_supported a.now) }
     ensures { IfOk result (λ bs. branches bs ≡ release (asrt_of a.now) state) }
 {
     let env = state.env().fork(alloc)?;
@@ -249,7 +244,6 @@ fn produce_on_each(
     env: &Env,
     a: &Asrt,
 ) -> Result<List<Branch>, AllocError>
-    requires { IsTrue (is_supported a.now) }
     ensures { IfOk result (λ bs. branches bs ≡ followed (branches before) (λ _. part_produced rung env.now (asrt_of a.now))) }
 {
     let mut out = List::new(alloc);
@@ -273,7 +267,6 @@ fn produce_alone(
     env: &Env,
     a: &Asrt,
 ) -> Result<List<Branch>, AllocError>
-    requires { IsTrue (is_supported a.now) }
     ensures { IfOk result (λ bs. branches bs ≡ part_produced rung env.now (asrt_of a.now) state) }
 {
     let env = env.fork(alloc)?;

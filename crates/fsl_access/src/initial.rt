@@ -3,14 +3,13 @@ ghost use Rattle.std.specs.Prelude.{◌≡◌, IfOk, is_some};
 ghost use Rattle.fsl_core.specs.logic.States.{followed};
 ghost use Rattle.fsl_core.specs.logic.Chunks.{first, init_at};
 ghost use Rattle.fsl_core.specs.logic.Joining.{produce_init};
-ghost use Rattle.fsl_chunk.specs.Went.{branches as went};
 ghost use Rattle.fsl_asrt.specs.Branch.{branches};
 
 use crate::branches::listed;
-use fsl_asrt::Branch;
+use fsl_asrt::{Branch, add_init};
 use fsl_base::{List, TryClone};
-use fsl_chunk::{State, Want, Went};
-use fsl_core::{Chunk, Rung};
+use fsl_chunk::{State, Want};
+use fsl_core::Rung;
 use fsl_lin::Lin;
 use std::alloc::{AllocError, Global};
 
@@ -20,18 +19,6 @@ pub fn is_initial(state: &State, rung: Rung, at: &Lin) -> bool
     ensures { result ≡ is_some (first (init_at rung at.now state.now.facts) state.now.chunks) }
 {
     state.find(&Want::Init { rung, at }).is_some()
-}
-
-/// A location has been written. It is said once.
-#[tactic(auto, using(crate::proofs::LocationLemmas::init_there, crate::proofs::LocationLemmas::init_new))]
-pub fn produce_init(alloc: Global, state: State, rung: Rung, at: &Lin) -> Result<Went, AllocError>
-    ensures { IfOk result (λ came. went came ≡ produce_init rung at.now state) }
-{
-    if is_initial(&state, rung, at) {
-        return Ok(Went::Goes { state });
-    }
-    let at = at.try_clone(alloc)?;
-    state.add(alloc, Chunk::Init { rung, at })
 }
 
 /// On each branch a location has been written.
@@ -47,7 +34,7 @@ pub fn init_on_each(
     for branch in before.into_vec() {
         match branch {
             Branch::Goes { state } => {
-                let came = produce_init(alloc, state, rung, at)?;
+                let came = add_init(alloc, state, rung, at.try_clone(alloc)?)?;
                 let more = listed(alloc, came)?;
                 out.append(more)?;
             }

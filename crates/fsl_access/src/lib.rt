@@ -1,9 +1,8 @@
-//! The rules of accesses: allocations, loads and stores of non-atomic cells. Each call takes the state of a path and
-//! answers the branches of one rule of `fsl_core/specs/logic`.
+//! The rules of accesses: allocations, loads, stores, fences and frees. Each call takes the state of a path and answers
+//! the branches of one rule of `fsl_core/specs/logic`, in order.
 #![tactic(auto)]
 
 mod accesses;
-mod args;
 mod branches;
 mod fences;
 mod initial;
@@ -20,5 +19,5 @@ pub use branches::{failing, going, set_on_each, without_env};
 pub use fences::fence;
 pub use loading::load;
 pub use located::alloc_at;
-pub use pieces::{are_supported_invs, padded};
+pub use pieces::padded;
 pub use storing::store;

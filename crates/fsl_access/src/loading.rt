@@ -1,5 +1,5 @@
 //! The rule of atomic loads.
-ghost use Rattle.std.specs.Prelude.{◌≡◌, ◌∷◌, ◌++◌, [], false, Some, IfOk, IsTrue, slice_get};
+ghost use Rattle.std.specs.Prelude.{◌≡◌, ◌∷◌, ◌++◌, [], false, Some, IfOk, slice_get};
 ghost use Rattle.fsl_core.specs.declared.chunk.Chunk.TheVariants as chunk;
 ghost use Rattle.std.specs.Option.{option_map};
 ghost use Rattle.fsl_core.specs.logic.States.{followed};
@@ -10,7 +10,6 @@ ghost use Rattle.fsl_core.specs.logic.Accesses.{is_excluded, gain, gain_by, gain
 ghost use Rattle.fsl_chunk.specs.Kind.{kind_of};
 ghost use Rattle.fsl_chunk.specs.declared.kind.ChunkKind.TheVariants as chunk_kind;
 ghost use Rattle.fsl_asrt.specs.Branch.{branches, decided as decided_list};
-ghost use Rattle.fsl_access.specs.Pieces.{are_supported_invs};
 ghost use Rattle.fsl_access.specs.Permissions.{permission_of};
 ghost use Rattle.fsl_access.specs.Loading.{loaded, gained_at};
 
@@ -36,7 +35,6 @@ pub fn load(
     mode: Mode,
     at: &Expr,
 ) -> Result<List<Branch>, AllocError>
-    requires { IsTrue (are_supported_invs p.now.invs) }
     ensures { IfOk result (λ bs. branches bs ≡ load (setting_of asrt_of p.now) slot mode (expr_of at.now) state) }
 {
     match mode {
@@ -59,7 +57,6 @@ fn load_atomic(
     mode: Mode,
     at: &Expr,
 ) -> Result<List<Branch>, AllocError>
-    requires { IsTrue (are_supported_invs p.now.invs) }
     ensures { IfOk result (λ bs. branches bs ≡ load_atomic (setting_of asrt_of p.now) slot mode (expr_of at.now) state) }
 {
     let Some(a) = read(alloc, &state, at, state.env())? else {
@@ -86,7 +83,6 @@ fn loaded(
     at: &Lin,
     v: &Lin,
 ) -> Result<List<Branch>, AllocError>
-    requires { IsTrue (are_supported_invs p.now.invs) }
     ensures { IfOk result (λ bs. branches bs ≡ loaded (setting_of asrt_of p.now) slot rung at.now v.now state) }
 {
     let places = permissions(alloc, &state, at)?;
@@ -105,7 +101,6 @@ fn gain_each(
     v: &Lin,
     places: &[u32],
 ) -> Result<List<Branch>, AllocError>
-    requires { IsTrue (are_supported_invs p.now.invs) }
     ensures { IfOk result (λ bs. branches bs ≡ gain_each (setting_of asrt_of p.now) rung at.now v.now places.now state) }
 {
     let mut before = going(alloc, state)?;
@@ -125,7 +120,6 @@ fn gain_on_each(
     v: &Lin,
     place: u32,
 ) -> Result<List<Branch>, AllocError>
-    requires { IsTrue (are_supported_invs p.now.invs) }
     ensures { IfOk result (λ bs. branches bs ≡ followed (branches before) (λ _. gained_at (setting_of asrt_of p.now) rung at.now v.now place)) }
 {
     let mut out = List::new(alloc);
@@ -151,7 +145,6 @@ fn gain_at(
     v: &Lin,
     place: u32,
 ) -> Result<List<Branch>, AllocError>
-    requires { IsTrue (are_supported_invs p.now.invs) }
     ensures { IfOk result (λ bs. branches bs ≡ gained_at (setting_of asrt_of p.now) rung at.now v.now place state) }
 {
     match permission_in(alloc, &state, at, place)? {
@@ -170,7 +163,6 @@ fn gain_by(
     place: u32,
     x: &Permission,
 ) -> Result<List<Branch>, AllocError>
-    requires invs { IsTrue (are_supported_invs p.now.invs) }
     requires place { option_map kind_of (slice_get state.chunks place) ≡ Some chunk_kind.Acq }
     ensures { IfOk result (λ bs. branches bs ≡ gain_by (setting_of asrt_of p.now) rung v.now place (Some (permission_of x.now)) state) }
 {
@@ -236,7 +228,6 @@ fn gain(
     place: u32,
     x: &Permission,
 ) -> Result<List<Branch>, AllocError>
-    requires invs { IsTrue (are_supported_invs p.now.invs) }
     requires place { option_map kind_of (slice_get state.chunks place) ≡ Some chunk_kind.Acq }
     ensures { IfOk result (λ bs. branches bs ≡ gain (setting_of asrt_of p.now) rung v.now place (permission_of x.now) false state) }
 {

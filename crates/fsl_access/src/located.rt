@@ -8,14 +8,12 @@ ghost use Rattle.fsl_core.specs.logic.Locations.{setting_of};
 ghost use Rattle.fsl_core.specs.logic.Chunks.{add};
 ghost use Rattle.fsl_core.specs.logic.Accesses.{alloc_at, add_leave, add_permissions};
 ghost use Rattle.fsl_chunk.specs.Went.{branches};
-ghost use Rattle.fsl_access.specs.Location.{leave_of};
+ghost use Rattle.fsl_chunk.specs.Fits.{leave_of};
 ghost use Rattle.fsl_access.specs.Located.{new_location, based, located, with_leave};
 
-use crate::args::arguments;
-use crate::location::Location;
-use fsl_asrt::constant;
+use fsl_asrt::{all_terms, constant};
 use fsl_base::{List, TryClone};
-use fsl_chunk::{Made, State, Went};
+use fsl_chunk::{Leave, Made, State, Went};
 use fsl_core::{Asrt, Chunk, Inst, Kind, Program};
 use fsl_lin::Lin;
 use std::alloc::{AllocError, Global};
@@ -33,7 +31,7 @@ pub fn alloc_at(
 ) -> Result<Went, AllocError>
     ensures { IfOk result (λ went. branches went ≡ alloc_at (setting_of asrt_of p.now) slot rmw (inst_of expr_of inst.now) state) }
 {
-    match arguments(alloc, &state, inst.args.as_slice())? {
+    match all_terms(alloc, &state, inst.args.as_slice(), state.env())? {
         Some(args) => new_location(alloc, p, state, slot, rmw, inst.inv, args),
         None => Ok(Went::Fails { kind: Kind::Term }),
     }
@@ -54,7 +52,7 @@ fn new_location(
 {
     match state.new_symbol(alloc)? {
         Made::Goes { state, symbol } => {
-            let l = Location {
+            let l = Leave {
                 at: symbol,
                 inv,
                 args,
@@ -72,7 +70,7 @@ fn based(
     state: State,
     slot: u32,
     rmw: bool,
-    l: Location,
+    l: Leave,
 ) -> Result<Went, AllocError>
     ensures { IfOk result (λ went. branches went ≡ based (setting_of asrt_of p.now) slot rmw (leave_of l) state) }
 {
@@ -91,7 +89,7 @@ fn located(
     state: State,
     slot: u32,
     rmw: bool,
-    l: Location,
+    l: Leave,
 ) -> Result<Went, AllocError>
     ensures { IfOk result (λ went. branches went ≡ located (setting_of asrt_of p.now) slot rmw (leave_of l) state) }
 {
@@ -114,7 +112,7 @@ fn with_leave(
     state: State,
     slot: u32,
     rmw: bool,
-    l: Location,
+    l: Leave,
 ) -> Result<Went, AllocError>
     ensures { IfOk result (λ went. branches went ≡ with_leave (setting_of asrt_of p.now) slot rmw (leave_of l) state) }
 {
@@ -134,7 +132,7 @@ fn add_leave(
     p: &Program,
     state: State,
     rmw: bool,
-    l: &Location,
+    l: &Leave,
 ) -> Result<Went, AllocError>
     ensures { IfOk result (λ went. branches went ≡ add_leave (setting_of asrt_of p.now) rmw (leave_of l.now) state) }
 {
@@ -148,7 +146,7 @@ fn add_leave(
 }
 
 /// Leave to read-modify-write a location.
-fn add_update(alloc: Global, state: State, l: &Location) -> Result<Went, AllocError>
+fn add_update(alloc: Global, state: State, l: &Leave) -> Result<Went, AllocError>
     ensures { IfOk result (λ went. branches went ≡ add (chunk.RmwAcq l.now.at l.now.inv l.now.args) state) }
 {
     let chunk = Chunk::RmwAcq {
@@ -164,7 +162,7 @@ fn add_update(alloc: Global, state: State, l: &Location) -> Result<Went, AllocEr
 fn add_permissions(
     alloc: Global,
     state: State,
-    l: &Location,
+    l: &Leave,
     parts: &[Asrt],
 ) -> Result<Went, AllocError>
     ensures { IfOk result (λ went. branches went ≡ add_permissions (leave_of l.now) 0 (map asrt_of parts.now) state) }
@@ -187,7 +185,7 @@ fn add_permissions(
 fn add_permission(
     alloc: Global,
     state: State,
-    l: &Location,
+    l: &Leave,
     part: u32,
 ) -> Result<Went, AllocError>
     ensures { IfOk result (λ went. branches went ≡ add (chunk.Acq l.now.at l.now.inv l.now.args part []) state) }

@@ -4,9 +4,8 @@ ghost use Rattle.std.specs.Option.{option_map};
 ghost use Rattle.fsl_core.specs.logic.Accesses.{permission_at, permission_in, permissions};
 ghost use Rattle.fsl_access.specs.Permissions.{permission_of};
 
-use crate::location::Location;
 use fsl_base::{List, TryClone};
-use fsl_chunk::State;
+use fsl_chunk::{Leave, State};
 use fsl_core::Chunk;
 use fsl_lin::Lin;
 use std::alloc::{AllocError, Global};
@@ -14,7 +13,7 @@ use std::alloc::{AllocError, Global};
 /// Leave to acquire one part of the invariant of a location, but for the values that were read already.
 #[derive(Drop)]
 pub struct Permission {
-    pub location: Location,
+    pub location: Leave,
     pub part: u32,
     pub out: List<Lin>,
 }
@@ -73,12 +72,12 @@ fn permission_at(
 }
 
 /// A location with its invariant, copied.
-fn copied(alloc: Global, at: &Lin, inv: u32, args: &List<Lin>) -> Result<Location, AllocError>
+fn copied(alloc: Global, at: &Lin, inv: u32, args: &List<Lin>) -> Result<Leave, AllocError>
     ensures { IfOk result (λ l. l ≡ record { at = at.now; inv = inv; args = args.now }) }
 {
     let at = at.try_clone(alloc)?;
     let args = args.try_clone(alloc)?;
-    Ok(Location { at, inv, args })
+    Ok(Leave { at, inv, args })
 }
 
 /// The permission that stands at a number now, if there is one for the location at an address.

@@ -1,57 +1,19 @@
 //! The parts of a location's invariant at a value: all of them consumed, or one of them produced.
-ghost use Rattle.std.specs.Prelude.{◌≡◌, ◌∷◌, [], ◌++◌, slice_get, IfOk, IfSome, IsTrue};
-ghost use Rattle.std.specs.List.{list_all};
-ghost use Rattle.std.specs.Option.{option_copied};
+ghost use Rattle.std.specs.Prelude.{◌≡◌, ◌∷◌, [], ◌++◌, IfOk};
 ghost use Rattle.fsl_core.specs.logic.States.{followed};
 ghost use Rattle.fsl_core.specs.logic.Assertions.{asrt_of};
 ghost use Rattle.fsl_core.specs.logic.Locations.{setting_of, padded, consume_parts, parts_at, produce_part, part_at};
 ghost use Rattle.fsl_asrt.specs.Branch.{branches};
-ghost use Rattle.fsl_asrt.specs.Supported.{is_supported};
-ghost use Rattle.fsl_access.specs.Location.{leave_of};
-ghost use Rattle.fsl_access.specs.Pieces.{is_supported_inv, are_supported_invs, parts_in, part_consumed, piece_at};
+ghost use Rattle.fsl_chunk.specs.Fits.{leave_of};
+ghost use Rattle.fsl_access.specs.Pieces.{parts_in, part_consumed, piece_at};
 
 use crate::branches::{going, without_env};
-use crate::location::Location;
-use fsl_asrt::{Branch, constant, consume, is_supported, produce};
+use fsl_asrt::{Branch, constant, consume, produce};
 use fsl_base::{List, TryClone};
-use fsl_chunk::{Env, State};
+use fsl_chunk::{Env, Leave, State};
 use fsl_core::{Asrt, Inv, Mood, Program, Rung};
 use fsl_lin::Lin;
 use std::alloc::{AllocError, Global};
-
-/// Whether each part of an invariant is produced and consumed so far.
-fn is_supported_inv(inv: &Inv) -> bool
-    ensures { result ≡ is_supported_inv inv.now }
-{
-    for part in inv.parts.as_slice() {
-        if !is_supported(part) {
-            return false;
-        }
-    }
-    true
-}
-
-/// Whether the parts of all invariants are produced and consumed so far. It takes no memory.
-pub fn are_supported_invs(invs: &[Inv]) -> bool
-    ensures { result ≡ are_supported_invs invs.now }
-{
-    for inv in invs {
-        if !is_supported_inv(inv) {
-            return false;
-        }
-    }
-    true
-}
-
-/// The invariant of a number; `None` exactly where there is no such invariant.
-#[tactic(auto, using(crate::proofs::PiecesLemmas::found_supported))]
-fn invariant(p: &Program, number: u32) -> Option<&Inv>
-    requires { IsTrue (are_supported_invs p.now.invs) }
-    ensures found { option_copied result ≡ slice_get p.now.invs number }
-    ensures supported { IfSome result (λ inv. IsTrue (is_supported_inv inv.now)) }
-{
-    p.invs().get(number as usize)
-}
 
 /// An environment with a zero for each slot that is not set yet.
 #[tactic(auto, using(crate::proofs::PiecesLemmas::padded_more, crate::proofs::PiecesLemmas::padded_full))]
@@ -92,13 +54,12 @@ pub fn consume_parts(
     p: &Program,
     state: State,
     rung: Rung,
-    l: &Location,
+    l: &Leave,
     v: &Lin,
 ) -> Result<List<Branch>, AllocError>
-    requires { IsTrue (are_supported_invs p.now.invs) }
     ensures { IfOk result (λ bs. branches bs ≡ consume_parts rung (parts_at (setting_of asrt_of p.now) (leave_of l.now) v.now) state) }
 {
-    match invariant(p, l.inv) {
+    match p.invs().get(l.inv as usize) {
         Some(inv) => {
             let env = env_at(alloc, inv, l.args.as_slice(), v)?;
             consume_each(alloc, state, rung, &env, inv.parts.as_slice())
@@ -108,7 +69,7 @@ pub fn consume_parts(
 }
 
 /// Parts are consumed, one after the other.
-#[tactic(auto, using(crate::proofs::PiecesLemmas::parts_first, crate::proofs::PiecesLemmas::part_supported))]
+#[tactic(auto, using(crate::proofs::PiecesLemmas::parts_first))]
 fn consume_each(
     alloc: Global,
     state: State,
@@ -116,7 +77,6 @@ fn consume_each(
     env: &Env,
     parts: &[Asrt],
 ) -> Result<List<Branch>, AllocError>
-    requires { IsTrue (list_all is_supported parts.now) }
     ensures { IfOk result (λ bs. branches bs ≡ consume_parts rung (parts_in env.now parts.now) state) }
 {
     let mut before = going(alloc, state)?;
@@ -134,7 +94,6 @@ fn consume_on_each(
     env: &Env,
     part: &Asrt,
 ) -> Result<List<Branch>, AllocError>
-    requires { IsTrue (is_supported part.now) }
     ensures { IfOk result (λ bs. branches bs ≡ followed (branches before) (λ _. part_consumed rung env.now (asrt_of part.now))) }
 {
     let mut out = List::new(alloc);
@@ -158,7 +117,6 @@ fn consume_part(
     env: &Env,
     part: &Asrt,
 ) -> Result<List<Branch>, AllocError>
-    requires { IsTrue (is_supported part.now) }
     ensures { IfOk result (λ bs. branches bs ≡ part_consumed rung env.now (asrt_of part.now) state) }
 {
     let env = env.fork(alloc)?;
@@ -172,21 +130,19 @@ pub fn produce_part(
     p: &Program,
     state: State,
     rung: Rung,
-    l: &Location,
+    l: &Leave,
     part: u32,
     v: &Lin,
 ) -> Result<List<Branch>, AllocError>
-    requires { IsTrue (are_supported_invs p.now.invs) }
     ensures { IfOk result (λ bs. branches bs ≡ produce_part rung (part_at (setting_of asrt_of p.now) (leave_of l.now) part v.now) state) }
 {
-    match invariant(p, l.inv) {
+    match p.invs().get(l.inv as usize) {
         Some(inv) => produce_of(alloc, state, rung, inv, l.args.as_slice(), part, v),
         None => going(alloc, state),
     }
 }
 
 /// One part of an invariant is produced.
-#[tactic(auto, using(crate::proofs::PiecesLemmas::one_supported))]
 fn produce_of(
     alloc: Global,
     state: State,
@@ -196,7 +152,6 @@ fn produce_of(
     part: u32,
     v: &Lin,
 ) -> Result<List<Branch>, AllocError>
-    requires { IsTrue (is_supported_inv inv.now) }
     ensures { IfOk result (λ bs. branches bs ≡ produce_part rung (piece_at inv.now args.now part v.now) state) }
 {
     match inv.parts.get(part as usize) {

@@ -1,23 +1,22 @@
 //! The rule of atomic stores.
-ghost use Rattle.std.specs.Prelude.{◌≡◌, IfOk, IsTrue};
+ghost use Rattle.std.specs.Prelude.{◌≡◌, IfOk};
 ghost use Rattle.fsl_core.specs.logic.Terms.{expr_of};
 ghost use Rattle.fsl_core.specs.logic.Assertions.{asrt_of};
 ghost use Rattle.fsl_core.specs.logic.Locations.{setting_of};
 ghost use Rattle.fsl_core.specs.logic.Accesses.{store_atomic, store};
 ghost use Rattle.fsl_asrt.specs.Branch.{branches};
-ghost use Rattle.fsl_access.specs.Location.{leave_of};
-ghost use Rattle.fsl_access.specs.Pieces.{are_supported_invs};
+ghost use Rattle.fsl_chunk.specs.Fits.{leave_of};
 ghost use Rattle.fsl_access.specs.Storing.{written_under};
 
 use crate::accesses::store_na;
 use crate::branches::{failing, listed};
 use crate::initial::init_on_each;
-use crate::location::{Location, writable_at};
+use crate::location::writable_at;
 use crate::modes::giving;
 use crate::pieces::consume_parts;
 use fsl_asrt::{Branch, read};
 use fsl_base::List;
-use fsl_chunk::State;
+use fsl_chunk::{Leave, State};
 use fsl_core::{Expr, Kind, Mode, Program, Rung};
 use fsl_lin::Lin;
 use std::alloc::{AllocError, Global};
@@ -31,7 +30,6 @@ pub fn store(
     at: &Expr,
     e: &Expr,
 ) -> Result<List<Branch>, AllocError>
-    requires { IsTrue (are_supported_invs p.now.invs) }
     ensures { IfOk result (λ bs. branches bs ≡ store (setting_of asrt_of p.now) mode (expr_of at.now) (expr_of e.now) state) }
 {
     match mode {
@@ -54,7 +52,6 @@ fn store_atomic(
     at: &Expr,
     e: &Expr,
 ) -> Result<List<Branch>, AllocError>
-    requires { IsTrue (are_supported_invs p.now.invs) }
     ensures { IfOk result (λ bs. branches bs ≡ store_atomic (setting_of asrt_of p.now) mode (expr_of at.now) (expr_of e.now) state) }
 {
     let Some(a) = read(alloc, &state, at, state.env())? else {
@@ -77,9 +74,8 @@ fn write(
     rung: Rung,
     at: &Lin,
     v: &Lin,
-    l: &Location,
+    l: &Leave,
 ) -> Result<List<Branch>, AllocError>
-    requires { IsTrue (are_supported_invs p.now.invs) }
     ensures { IfOk result (λ bs. branches bs ≡ written_under (setting_of asrt_of p.now) rung at.now v.now (leave_of l.now) state) }
 {
     let given = consume_parts(alloc, p, state, rung, l, v)?;

@@ -1,7 +1,7 @@
 use Rattle.std.proofs.Common.{◌≡◌, ◌≤◌, drop, map, length}
 use Rattle.fsl_core.specs.logic.Accesses.{add_permissions}
 use Rattle.fsl_core.specs.logic.Assertions.{asrt_of}
-use Rattle.fsl_access.specs.Location.{leave_of}
+use Rattle.fsl_chunk.specs.Fits.{leave_of}
 use Rattle.fsl_access.proofs.located.add_permissions.Given as goal
 
 abbrev pub invariant-loop-_asrt : goal.invariant-loop-_asrt

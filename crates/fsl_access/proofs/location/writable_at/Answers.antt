@@ -3,7 +3,8 @@ use Rattle.std.specs.Option.{option_map}
 use Rattle.fsl_core.specs.logic.Chunks.{rel_at}
 use Rattle.fsl_asrt.proofs.Keeping.{ok_then}
 use Rattle.fsl_access.proofs.LocationLemmas.{found_at, rel_reads}
-use Rattle.fsl_access.specs.Location.{leave_of, rel_in}
+use Rattle.fsl_chunk.specs.Fits.{leave_of}
+use Rattle.fsl_access.specs.Location.{rel_in}
 use Rattle.fsl_access.proofs.location.writable_at.Goals as goal
 
 pub returns-in-Some : goal.returns-in-Some

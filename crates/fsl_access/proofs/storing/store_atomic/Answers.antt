@@ -8,7 +8,7 @@ use Rattle.fsl_asrt.specs.Branch.{branches}
 use Rattle.fsl_asrt.proofs.Keeping.{ok_then}
 use Rattle.fsl_asrt.proofs.Laws.{has_term}
 use Rattle.fsl_access.proofs.StoringLemmas.{store_found}
-use Rattle.fsl_access.specs.Location.{leave_of}
+use Rattle.fsl_chunk.specs.Fits.{leave_of}
 use Rattle.fsl_access.specs.Storing.{written_under}
 use Rattle.fsl_access.proofs.storing.store_atomic.Goals as goal
 
