@@ -4,7 +4,7 @@ use Rattle.fsl_core.specs.declared.act.Stmt.{Stmt}
 use Rattle.fsl_core.specs.logic.States.{State, goes, fails, Branches, Action}
 use Rattle.fsl_core.specs.logic.Slots.{past}
 use Rattle.fsl_core.specs.logic.Paths.{Ends, Meaning, Reading, block, stmt_of, each, act_step, stmt_step, return, give_inv, round, path_ends}
-use Rattle.fsl_flow.specs.Paths.{act_meaning, meanings, reading, frame_ends, continuation_ends, item_ends, is_supported_frame, is_supported_leaving, is_supported_continuation}
+use Rattle.fsl_flow.specs.Paths.{act_meaning, meanings, reading, frame_ends, continuation_ends, item_ends, is_supported_frame, is_supported_continuation}
 use Rattle.fsl_flow.specs.Sets.{act_sets, stmts_set}
 use Rattle.fsl_flow.proofs.SetsLemmas.{stmt_layer, sets_same, all_same}
 use Rattle.std.specs.List.{flat_map, list_all}
@@ -157,4 +157,4 @@ pub next_ends : (job : Job) (s : State) (left : Continuation) → is_supported_c
     → item_ends job (goes_on s left) ≡ flat_map (item_ends job) (next job (goes_on s left))
 unfolding item_ends
 next_ends job s left supported =
-    from_ends job s left.frames left.leaving ((and_parts (list_all is_supported_frame left.frames) (is_supported_leaving left.leaving) supported).0)
+    from_ends job s left.frames left.leaving supported
