@@ -65,6 +65,18 @@ piece_found inv args part v o h =
     twice env (Some a) = refl
     twice env None = refl
 
+-- the part of a number is produced, if there is one
+pub piece_produced : (rung : Rung) (inv : Inv) (args : List Combination) (part : ℕ) (v : Combination) (s : State) (a : Asrt) (env : Env) (bs : Branches Env)
+    → Some a ≡ slice_get inv.parts part → env ≡ padded inv.slots (args ++ v ∷ []) → bs ≡ (asrt_of a).produce rung env s
+    → followed bs (λ _. done) ≡ produce_part rung (piece_at inv args part v) s
+piece_produced rung inv args part v s a env bs h e made =
+    ap (λ (cs : Branches Env). followed cs (λ _. done)) (made ∙ ap (λ (x : Env). (asrt_of a).produce rung x s) e)
+    ∙ ap (λ (o : Option Piece). produce_part rung o s) (sym (piece_found inv args part v (Some a) h))
+
+pub nothing_produced : (rung : Rung) (inv : Inv) (args : List Combination) (part : ℕ) (v : Combination) (s : State) → None ≡ slice_get inv.parts part
+    → goes tt s ∷ [] ≡ produce_part rung (piece_at inv args part v) s
+nothing_produced rung inv args part v s h = ap (λ (o : Option Piece). produce_part rung o s) (sym (piece_found inv args part v None h))
+
 -- ---- parts that are consumed
 
 -- a rule that drops what was given, and then another one
