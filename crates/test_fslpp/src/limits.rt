@@ -1,5 +1,4 @@
-//! Uses, counts and limits: programs at each limit and one past it. The programs whose answer is `refused form` are
-//! programs, but none that `check` covers.
+//! Uses, counts and limits: programs at each limit and one past it.
 use crate::refusals::is_answered;
 use std::alloc::{AllocError, Global};
 
@@ -43,7 +42,7 @@ const USES: [(&str, &str); 20] = [
     ),
     (
         "proc main() { while (true) inv (up(emp)) { } }",
-        "refused form\n",
+        "accepted 1\n",
     ),
     (
         "proc f() ensures (if (true) { emp } else { down(emp) }) { } proc main() { par { f(); f(); } }",
@@ -55,7 +54,7 @@ const USES: [(&str, &str); 20] = [
     ),
     (
         "proc f() ensures (up(emp)) { } proc main() { call f(); }",
-        "refused form\n",
+        "accepted 2\n",
     ),
     (
         "inv I() of v { emp } { emp } { emp } { emp } { emp } { emp } { emp } { emp } proc main() { }",
@@ -67,7 +66,7 @@ const USES: [(&str, &str); 20] = [
     ),
     (
         "inv I() of v { emp } { emp } proc f(x) requires (Acq(x, I(), 1, {})) { } proc main() { }",
-        "refused form\n",
+        "accepted 2\n",
     ),
     (
         "inv I() of v { emp } { emp } proc f(x) requires (Acq(x, I(), 2, {})) { } proc main() { }",
@@ -103,7 +102,7 @@ const COUNTS: [(&str, &str); 22] = [
     ),
     (
         "inv I() of v { emp } proc f(x) requires (Acq(x, I(), 0, {0, 0, 0, 0, 0, 0, 0, 0, 0, 0, 0, 0, 0, 0, 0, 0})) { } proc main() { }",
-        "refused form\n",
+        "accepted 2\n",
     ),
     (
         "inv I() of v { emp } proc f(x) requires (Acq(x, I(), 0, {0, 0, 0, 0, 0, 0, 0, 0, 0, 0, 0, 0, 0, 0, 0, 0, 0})) { } proc main() { }",
@@ -272,7 +271,7 @@ const LIMITS: [(&str, &str, &str, u32, &str, &str); 16] = [
         "+ 0, ",
         15,
         "777})) { } proc main() { }",
-        "refused form\n",
+        "accepted 2\n",
     ),
     (
         "inv i() of v { emp } proc f(x) requires (Acq(x, i(), 0, {",
