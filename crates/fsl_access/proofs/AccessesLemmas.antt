@@ -1,5 +1,5 @@
--- Allocations, loads and stores, once the address is a symbol or the cell is found.
-use Rattle.std.proofs.Common.{◌≡◌, ℕ, Bool, true, false, List, [], ◌∷◌, ◌++◌, Option, Some, None, pos, slice_set, refl, sym, ap, ◌∙◌, append-nil}
+-- Allocations, loads, stores and frees, once the address is a symbol or the cell is found.
+use Rattle.std.proofs.Common.{◌≡◌, ℕ, Bool, true, false, List, [], ◌∷◌, ◌++◌, Option, Some, None, pos, slice_set, remove, refl, sym, ap, ◌∙◌, append-nil}
 use Rattle.fsl_core.specs.declared.chunk.Chunk.{Chunk}
 use Rattle.fsl_core.specs.declared.chunk.Chunk.TheVariants as chunk
 use Rattle.fsl_core.specs.declared.mode.Rung.TheVariants.{Plain}
@@ -8,27 +8,30 @@ use Rattle.fsl_core.specs.declared.verdict.Kind.TheVariants as kind
 use Rattle.fsl_core.specs.logic.States.{State, goes, fails, Branches, Rule, Action, followed, ◌>>=◌, ◌>>◌, give, demand, demand_some, new_symbol}
 use Rattle.fsl_core.specs.logic.Terms.{Expression}
 use Rattle.fsl_core.specs.logic.Deciding.{proves_equal, assume_at_most}
-use Rattle.fsl_core.specs.logic.Chunks.{Found, Reading, first, find_or, put, Cell, cell_at}
+use Rattle.fsl_core.specs.logic.Chunks.{Found, Reading, first, find_or, put, take, Cell, cell_at}
 use Rattle.fsl_core.specs.logic.Joining.{full}
 use Rattle.fsl_core.specs.logic.Consuming.{demand_equal}
-use Rattle.fsl_core.specs.logic.Accesses.{alloc_na, load_na, store_na, whole_cell}
+use Rattle.fsl_core.specs.logic.Accesses.{new_address, alloc_na, load_na, store_na, whole_cell, free}
 use Rattle.fsl_lin.specs.Combination.{Combination, constant}
-use Rattle.fsl_asrt.specs.Cells.{IsPoints, IsFound, IsFoundBy, put_at}
+use Rattle.fsl_asrt.specs.Cells.{IsPoints, IsFound, IsFoundBy, put_at, take_at}
 use Rattle.fsl_asrt.specs.declared.cells.FoundCell.{FoundCell}
-use Rattle.fsl_asrt.proofs.Laws.{followed_twice, followed_equal, got, lacked, from_here}
-use Rattle.fsl_access.specs.Accesses.{placed, addressed, loaded, written}
+use Rattle.fsl_asrt.proofs.Laws.{followed_twice, followed_equal, got, lacked, from_here, with_term, without_term}
+use Rattle.fsl_access.specs.Accesses.{placed, addressed, loaded, written, freed}
 
 -- ---- allocations
 
-abbrev at_least_one : Combination → Action
+abbrev pub at_least_one : Combination → Action
 at_least_one d = assume_at_most (constant (pos 1)) (pos 0) d
 
+pub address_then : (s : State) (rest : Combination → Action) → (new_address >>= rest) s ≡ followed (new_symbol s) (λ d. at_least_one d >> rest d)
+address_then s rest =
+    followed_twice (new_symbol s) (λ d. at_least_one d >> give d) rest
+    ∙ followed_equal (new_symbol s) (λ d. (at_least_one d >> give d) >>= rest) (λ d. at_least_one d >> rest d) (λ d t.
+    followed_twice (at_least_one d t) (λ _. give d) rest
+    ∙ followed_equal (at_least_one d t) (λ _. give d >>= rest) (λ _. rest d) (λ x u. append-nil (rest d u)))
+
 pub allocated : (slot : ℕ) (s : State) → alloc_na slot s ≡ followed (new_symbol s) (addressed slot)
-allocated slot s =
-    followed_twice (new_symbol s) (λ d. at_least_one d >> give d) (placed slot)
-    ∙ followed_equal (new_symbol s) (λ d. (at_least_one d >> give d) >>= placed slot) (addressed slot) (λ d t.
-    followed_twice (at_least_one d t) (λ _. give d) (placed slot)
-    ∙ followed_equal (at_least_one d t) (λ _. give d >>= placed slot) (λ _. placed slot d) (λ x u. append-nil (placed slot d u)))
+allocated slot s = address_then s (placed slot)
 
 -- ---- cells that are looked for
 
@@ -135,29 +138,38 @@ demanded : (b : Bool) (s : State) (f g : Action) → f s ≡ g s → followed (d
 demanded true s f g h = ap (λ (bs : Branches (Unit {0})). bs ++ []) h
 demanded false s f g h = refl
 
-stored : (s : State) (f : Found Chunk Cell) (c : FoundCell) (v : Combination) → IsFound Plain s.chunks f c
-    → (whole f >>= put_value v) s ≡ written c v s
-stored s f c v is =
-    followed_twice (demand_equal kind.Share f.is.share full s) (λ _. give f) (put_value v)
-    ∙ followed_equal (demand_equal kind.Share f.is.share full s) (λ _. give f >>= put_value v) (λ _. put_value v f) (λ x t. append-nil (put_value v f t))
-    ∙ ap (λ (bs : Branches (Unit {0})). followed bs (λ _. put_value v f)) (append-nil (demand kind.Share (proves_equal s.facts f.is.share full) s))
-    ∙ demanded (proves_equal s.facts f.is.share full) s (put_value v f) (put_at c.number (chunk.Points Plain c.at c.share (Some v))) (put_same s f c v is)
-    ∙ ap (λ (bs : Branches (Unit {0})). followed bs (λ _. put_at c.number (chunk.Points Plain c.at c.share (Some v))))
-    (sym (append-nil (demand kind.Share (proves_equal s.facts f.is.share full) s)))
-    ∙ ap (λ (x : Cell). followed (demand_equal kind.Share x.share full s) (λ _. put_at c.number (chunk.Points Plain c.at c.share (Some v)))) (sym is.is)
+-- all shares of a cell, and then what is done with it
+owned_by : (s : State) (f : Found Chunk Cell) (c : FoundCell) (does : Found Chunk Cell → Action) (after : Action) → IsFound Plain s.chunks f c
+    → does f s ≡ after s → (whole f >>= does) s ≡ (demand_equal kind.Share c.share full >> after) s
+owned_by s f c does after is same =
+    followed_twice (demand_equal kind.Share f.is.share full s) (λ _. give f) does
+    ∙ followed_equal (demand_equal kind.Share f.is.share full s) (λ _. give f >>= does) (λ _. does f) (λ x t. append-nil (does f t))
+    ∙ ap (λ (bs : Branches (Unit {0})). followed bs (λ _. does f)) (append-nil (demand kind.Share (proves_equal s.facts f.is.share full) s))
+    ∙ demanded (proves_equal s.facts f.is.share full) s (does f) after same
+    ∙ ap (λ (bs : Branches (Unit {0})). followed bs (λ _. after)) (sym (append-nil (demand kind.Share (proves_equal s.facts f.is.share full) s)))
+    ∙ ap (λ (x : Cell). followed (demand_equal kind.Share x.share full s) (λ _. after)) (sym is.is)
 
-store_by : (a v : Combination) (s : State) (o : Option (Found Chunk Cell)) (c : FoundCell)
-    → first (cell_at Plain a s.facts) s.chunks ≡ o → IsFoundBy Plain s.chunks o (Some c) → store_from a v s ≡ written c v s
-store_by a v s None c e is = absurd is
-store_by a v s (Some f) c e is =
-    followed_twice (find_or kind.Points (cell_at Plain a) s) whole (put_value v)
-    ∙ sought kind.Points (cell_at Plain a) s (λ g. whole g >>= put_value v)
-    ∙ got kind.Points (first (cell_at Plain a s.facts) s.chunks) f s (λ g. whole g >>= put_value v) e
-    ∙ stored s f c v is
+-- a cell that is owned is found first
+owned_first : (a : Combination) (s : State) (o : Option (Found Chunk Cell)) (c : FoundCell) (does : Found Chunk Cell → Action) (after : Action)
+    → ((f : Found Chunk Cell) → IsFound Plain s.chunks f c → does f s ≡ after s)
+    → first (cell_at Plain a s.facts) s.chunks ≡ o → IsFoundBy Plain s.chunks o (Some c)
+    → (whole_cell a >>= does) s ≡ (demand_equal kind.Share c.share full >> after) s
+owned_first a s None c does after same e is = absurd is
+owned_first a s (Some f) c does after same e is =
+    followed_twice (find_or kind.Points (cell_at Plain a) s) whole does
+    ∙ sought kind.Points (cell_at Plain a) s (λ g. whole g >>= does)
+    ∙ got kind.Points (first (cell_at Plain a s.facts) s.chunks) f s (λ g. whole g >>= does) e
+    ∙ owned_by s f c does after is (same f is)
+
+store_by : (a v : Combination) (s : State) (c : FoundCell) → IsFoundBy Plain s.chunks (first (cell_at Plain a s.facts) s.chunks) (Some c)
+    → store_from a v s ≡ written c v s
+store_by a v s c is =
+    owned_first a s (first (cell_at Plain a s.facts) s.chunks) c (put_value v) (put_at c.number (chunk.Points Plain c.at c.share (Some v)))
+    (λ f found. put_same s f c v found) refl is
 
 pub store_found : (at e : Expression) (s : State) (a v : Combination) (c : FoundCell) → at.term s.facts s.env ≡ Some a → e.term s.facts s.env ≡ Some v
     → IsFoundBy Plain s.chunks (first (cell_at Plain a s.facts) s.chunks) (Some c) → store_na at e s ≡ written c v s
-store_found at e s a v c h k is = store_at at e s a v h k ∙ store_by a v s (first (cell_at Plain a s.facts) s.chunks) c refl is
+store_found at e s a v c h k is = store_at at e s a v h k ∙ store_by a v s c is
 
 pub store_none : (at e : Expression) (s : State) (a v : Combination) → at.term s.facts s.env ≡ Some a → e.term s.facts s.env ≡ Some v
     → IsFoundBy Plain s.chunks (first (cell_at Plain a s.facts) s.chunks) None → store_na at e s ≡ fails kind.Points ∷ []
@@ -165,6 +177,44 @@ store_none at e s a v h k is =
     store_at at e s a v h k
     ∙ followed_twice (find_or kind.Points (cell_at Plain a) s) whole (put_value v)
     ∙ no_cell a s (λ g. whole g >>= put_value v) (first (cell_at Plain a s.facts) s.chunks) refl is
+
+-- ---- frees
+
+abbrev freed_from : Combination → Action
+freed_from a = whole_cell a >>= take
+
+pub free_wide : (at : Expression) (s : State) → at.term s.facts s.env ≡ None → free at s ≡ fails kind.Term ∷ []
+free_wide at s h = without_term at freed_from s h
+
+take_same : (s : State) (f : Found Chunk Cell) (c : FoundCell) → IsFound Plain s.chunks f c → take f s ≡ take_at c.number s
+take_same s f c is = ap (λ (cs : List Chunk). goes tt (record s { chunks = cs }) ∷ []) (sym is.taken)
+
+pub free_found : (at : Expression) (s : State) (a : Combination) (c : FoundCell) → at.term s.facts s.env ≡ Some a
+    → IsFoundBy Plain s.chunks (first (cell_at Plain a s.facts) s.chunks) (Some c) → free at s ≡ freed c s
+free_found at s a c h is =
+    with_term at freed_from s a h
+    ∙ owned_first a s (first (cell_at Plain a s.facts) s.chunks) c take (take_at c.number) (λ f found. take_same s f c found) refl is
+
+pub free_none : (at : Expression) (s : State) (a : Combination) → at.term s.facts s.env ≡ Some a
+    → IsFoundBy Plain s.chunks (first (cell_at Plain a s.facts) s.chunks) None → free at s ≡ fails kind.Points ∷ []
+free_none at s a h is =
+    with_term at freed_from s a h
+    ∙ followed_twice (find_or kind.Points (cell_at Plain a) s) whole take
+    ∙ no_cell a s (λ g. whole g >>= take) (first (cell_at Plain a s.facts) s.chunks) refl is
+
+pub freed_part : (c : FoundCell) (s : State) (all : Combination) (owned : Bool) → all ≡ full
+    → owned ≡ proves_equal s.facts c.share all → owned ≡ false → fails kind.Share ∷ [] ≡ freed c s
+freed_part c s all owned a h k =
+    let part : false ≡ proves_equal s.facts c.share full = sym k ∙ h ∙ ap (λ (x : Combination). proves_equal s.facts c.share x) a in
+    ap (λ (b : Bool). followed (demand kind.Share b s ++ []) (λ _. take_at c.number)) part
+
+pub freed_whole : (c : FoundCell) (s t : State) (all : Combination) (owned : Bool) → all ≡ full
+    → owned ≡ proves_equal s.facts c.share all → owned ≡ true
+    → t ≡ record s { chunks = remove s.chunks c.number } → goes tt t ∷ [] ≡ freed c s
+freed_whole c s t all owned a h k e =
+    let whole : true ≡ proves_equal s.facts c.share full = sym k ∙ h ∙ ap (λ (x : Combination). proves_equal s.facts c.share x) a in
+    ap (λ (u : State). goes tt u ∷ []) e
+    ∙ ap (λ (b : Bool). followed (demand kind.Share b s ++ []) (λ _. take_at c.number)) whole
 
 -- ---- a cell that was found stays a points-to
 

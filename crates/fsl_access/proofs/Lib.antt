@@ -1,1 +1,9 @@
 pub mod AccessesLemmas
+pub mod FencesLemmas
+pub mod LoadingLemmas
+pub mod LocatedLemmas
+pub mod LocationLemmas
+pub mod PermissionsLemmas
+pub mod PiecesLemmas
+pub mod SettingLemmas
+pub mod StoringLemmas

@@ -1,5 +1,5 @@
--- Parts of the rules of non-atomic cells: an allocation once its address is a symbol, a load and a store once the
--- cell is found.
+-- Parts of the rules of non-atomic cells: an allocation once its address is a symbol, a load, a store and a free once
+-- the cell is found.
 use Rattle.std.specs.Prelude.{ℕ, Option, Some, None, pos}
 use Rattle.fsl_core.specs.declared.chunk.Chunk.TheVariants as chunk
 use Rattle.fsl_core.specs.declared.mode.Rung.TheVariants.{Plain}
@@ -10,7 +10,7 @@ use Rattle.fsl_core.specs.logic.Chunks.{add}
 use Rattle.fsl_core.specs.logic.Joining.{full}
 use Rattle.fsl_core.specs.logic.Consuming.{demand_equal}
 use Rattle.fsl_lin.specs.Combination.{Combination, constant}
-use Rattle.fsl_asrt.specs.Cells.{put_at}
+use Rattle.fsl_asrt.specs.Cells.{put_at, take_at}
 use Rattle.fsl_asrt.specs.declared.cells.FoundCell.{FoundCell}
 
 -- a cell without a value is owned, and a variable is set to its address
@@ -35,3 +35,9 @@ abbrev pub written : FoundCell → Combination → Action
 written c v = do
   demand_equal kind.Share c.share full
   put_at c.number (chunk.Points Plain c.at c.share (Some v))
+
+-- the chunk of a cell goes
+abbrev pub freed : FoundCell → Action
+freed c = do
+  demand_equal kind.Share c.share full
+  take_at c.number

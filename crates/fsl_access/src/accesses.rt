@@ -1,11 +1,11 @@
-//! The rules of allocations, loads and stores of non-atomic cells.
+//! The rules of allocations, loads, stores and frees of non-atomic cells.
 ghost use Rattle.std.specs.Prelude.{◌≡◌, IfOk};
 ghost use Rattle.fsl_core.specs.declared.mode.Rung.TheVariants.{Plain};
 ghost use Rattle.fsl_core.specs.logic.Terms.{expr_of};
-ghost use Rattle.fsl_core.specs.logic.Accesses.{alloc_na, load_na, store_na};
+ghost use Rattle.fsl_core.specs.logic.Accesses.{alloc_na, load_na, store_na, free};
 ghost use Rattle.fsl_chunk.specs.Went.{branches};
 ghost use Rattle.fsl_asrt.specs.Cells.{IsPoints};
-ghost use Rattle.fsl_access.specs.Accesses.{addressed, placed, loaded, written};
+ghost use Rattle.fsl_access.specs.Accesses.{addressed, placed, loaded, written, freed};
 
 use fsl_asrt::{FULL, FoundCell, cell_at, constant, read};
 use fsl_base::TryClone;
@@ -102,6 +102,20 @@ pub fn store_na(alloc: Global, state: State, at: &Expr, e: &Expr) -> Result<Went
     }
 }
 
+/// Gives the cell at an address back, of which all shares have to be owned.
+#[tactic(auto, using(crate::proofs::AccessesLemmas::free_found, crate::proofs::AccessesLemmas::free_none, crate::proofs::AccessesLemmas::free_wide, crate::proofs::AccessesLemmas::points_found))]
+pub fn free(alloc: Global, state: State, at: &Expr) -> Result<Went, AllocError>
+    ensures { IfOk result (λ went. branches went ≡ free (expr_of at.now) state) }
+{
+    let Some(a) = read(alloc, &state, at, state.env())? else {
+        return Ok(Went::Fails { kind: Kind::Term });
+    };
+    match cell_at(alloc, &state, Rung::Plain, &a)? {
+        Some(c) => freed(alloc, state, c),
+        None => Ok(Went::Fails { kind: Kind::Points }),
+    }
+}
+
 /// A cell of which all shares are owned gets a value.
 fn written(alloc: Global, state: State, c: FoundCell, v: Lin) -> Result<Went, AllocError>
     requires { IsPoints Plain c.number state.chunks }
@@ -122,5 +136,19 @@ fn written(alloc: Global, state: State, c: FoundCell, v: Lin) -> Result<Went, Al
             value: Some(v),
         },
     )?;
+    Ok(Went::Goes { state })
+}
+
+/// A cell of which all shares are owned goes.
+fn freed(alloc: Global, state: State, c: FoundCell) -> Result<Went, AllocError>
+    requires { IsPoints Plain c.number state.chunks }
+    ensures { IfOk result (λ went. branches went ≡ freed c state) }
+{
+    let all = constant(alloc, FULL)?;
+    if !state.proves_equal(&c.share, &all) {
+        return Ok(Went::Fails { kind: Kind::Share });
+    }
+    let mut state = state;
+    let _chunk = state.take(c.number);
     Ok(Went::Goes { state })
 }

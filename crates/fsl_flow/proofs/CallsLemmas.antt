@@ -1,9 +1,7 @@
 -- Rules of calls, by their parts.
 use Rattle.std.proofs.Common.{◌≡◌, ◌≤◌, ◌<◌, ℕ, zero, suc, ◌+◌, true, false, List, [], ◌∷◌, ◌++◌, length, get_or, drop, map, slice_get, Option, Some, None, sym, ap, ◌∙◌, append_assoc, append-nil}
-use Rattle.std.specs.List.{list_all}
 use Rattle.std.specs.Option.{option_map}
 use Rattle.std.proofs.Math.ListN.{drop_of_length-le}
-use Rattle.std.proofs.lemmas.Bool.{and_parts}
 use Rattle.std.proofs.lemmas.Option.{slice_get-map}
 use Rattle.fsl_core.specs.declared.declaration.Proc.{Proc}
 use Rattle.fsl_core.specs.declared.expr.Expr.{Expr}
@@ -18,17 +16,10 @@ use Rattle.fsl_core.specs.logic.Calls.{gain_post, set_result, call_proc, call}
 use Rattle.fsl_lin.specs.Combination.{Combination}
 use Rattle.fsl_asrt.proofs.Laws.{followed_twice, followed_equal, followed_give, got, lacked, from_here, then_goes, then_fails}
 use Rattle.fsl_asrt.proofs.WalkLemmas.{next_item}
-use Rattle.fsl_flow.specs.Supported.{is_supported_proc}
 use Rattle.fsl_flow.specs.Calls.{gained, behind_pre}
 
--- ---- the procedure that is called
+-- ---- the procedure that is called: its contract
 
-pub found_supported : (qs : List Proc) (n : ℕ) (q : Proc) → list_all is_supported_proc qs ≡ true → Some q ≡ slice_get qs n → is_supported_proc q ≡ true
-found_supported [] n q h e = absurd cc
-found_supported (r ∷ rs) zero q h e = let same : q ≡ r = cc in rw same ((and_parts (is_supported_proc r) (list_all is_supported_proc rs) h).0)
-found_supported (r ∷ rs) (suc n) q h e = found_supported rs n q ((and_parts (is_supported_proc r) (list_all is_supported_proc rs) h).1) e
-
--- its contract
 pub contract_at : (p : Program) (n : ℕ) (o : Option Proc) → o ≡ slice_get p.procs n
     → slice_get (setting_of asrt_of p).procs n ≡ option_map (contract_of asrt_of) o
 contract_at p n o h = slice_get-map (contract_of asrt_of) p.procs n ∙ ap (option_map (contract_of asrt_of)) (sym h)
@@ -42,43 +33,6 @@ given_behind {X = X} bs out x =
     followed_twice bs (λ xs. give (x ∷ xs)) (λ xs. give (out ++ xs))
     ∙ followed_equal bs (λ xs. give (x ∷ xs) >>= (λ ys. give (out ++ ys))) (λ xs. give ((out ++ x ∷ []) ++ xs))
     (λ xs t. ap (λ (ys : List X). goes ys t ∷ []) (sym (append_assoc out (x ∷ []) xs)))
-
--- ---- terms of arguments
-
-one_term : (e : Expression) (es : List Expression) (env : Env) (s : State) (out : Env) (t : Combination) → e.term s.facts env ≡ Some t
-    → followed (terms (e ∷ es) env s) (λ ts. give (out ++ ts)) ≡ followed (terms es env s) (λ ts. give ((out ++ t ∷ []) ++ ts))
-one_term e es env s out t h =
-    ap (λ (bs : Branches Env). followed bs (λ ts. give (out ++ ts)))
-    (got kind.Term (e.term s.facts env) t s (λ u. terms es env >>= (λ ts. give (u ∷ ts))) h)
-    ∙ given_behind (terms es env s) out t
-
-pub args_first : (es : List Expression) (env : Env) (s : State) (out : Env) → out ≡ []
-    → followed (terms es env s) (λ ts. give (out ++ ts)) ≡ terms es env s
-args_first es env s out h = ap (λ (o : Env). followed (terms es env s) (λ ts. give (o ++ ts))) h ∙ followed_give (terms es env s)
-
-pub args_more : (i : ℕ) (args : List Expr) (e : Expr) (env : Env) (s : State) (out more : Env) (t : Combination) (whole : Branches Env)
-    → i < length args → e ≡ get_or args i e → (expr_of e).term s.facts env ≡ Some t → more ≡ out ++ t ∷ []
-    → followed (terms (map expr_of (drop i args)) env s) (λ ts. give (out ++ ts)) ≡ whole
-    → followed (terms (map expr_of (drop (i + 1) args)) env s) (λ ts. give (more ++ ts)) ≡ whole
-args_more i args e env s out more t whole below is h grown so =
-    ap (λ (o : Env). followed (terms (map expr_of (drop (i + 1) args)) env s) (λ ts. give (o ++ ts))) grown
-    ∙ sym (one_term (expr_of e) (map expr_of (drop (i + 1) args)) env s out t h)
-    ∙ ap (λ (es : List Expr). followed (terms (map expr_of es) env s) (λ ts. give (out ++ ts))) (sym (next_item args i e below is)) ∙ so
-
-pub args_wide : (i : ℕ) (args : List Expr) (e : Expr) (env : Env) (s : State) (out : Env) (whole : Branches Env)
-    → i < length args → e ≡ get_or args i e → (expr_of e).term s.facts env ≡ None
-    → followed (terms (map expr_of (drop i args)) env s) (λ ts. give (out ++ ts)) ≡ whole → fails kind.Term ∷ [] ≡ whole
-args_wide i args e env s out whole below is h so =
-    let es : List Expression = map expr_of (drop (i + 1) args) in
-    sym (ap (λ (bs : Branches Env). followed bs (λ ts. give (out ++ ts)))
-    (lacked kind.Term ((expr_of e).term s.facts env) s (λ u. terms es env >>= (λ ts. give (u ∷ ts))) h))
-    ∙ ap (λ (xs : List Expr). followed (terms (map expr_of xs) env s) (λ ts. give (out ++ ts))) (sym (next_item args i e below is)) ∙ so
-
-pub args_done : (i : ℕ) (args : List Expr) (env : Env) (s : State) (out : Env) (whole : Branches Env) → length args ≤ i
-    → followed (terms (map expr_of (drop i args)) env s) (λ ts. give (out ++ ts)) ≡ whole → goes out s ∷ [] ≡ whole
-args_done i args env s out whole past so =
-    ap (λ (ts : Env). goes ts s ∷ []) (sym (append-nil out))
-    ∙ ap (λ (es : List Expr). followed (terms (map expr_of es) env s) (λ ts. give (out ++ ts))) (sym (drop_of_length-le args past)) ∙ so
 
 -- ---- a call
 

@@ -1,5 +1,5 @@
 -- Lists whose last item is the first; and the innermost frame of a continuation, as it is taken off.
-use Rattle.std.proofs.Common.{◌≡◌, List, [], ◌∷◌, ◌++◌, map, reverse, refl, ap, ◌∙◌, true, ◌&&◌, sym}
+use Rattle.std.proofs.Common.{◌≡◌, List, [], ◌∷◌, ◌++◌, map, reverse, refl, ap, ◌∙◌, true, sym}
 use Rattle.std.proofs.lemmas.List.{map-append, reverse-append}
 use Rattle.fsl_flow.specs.Continuation.{from_last, Frame, frame_of, Leaving}
 use Rattle.std.specs.List.{list_all}
@@ -8,7 +8,7 @@ use Rattle.fsl_core.specs.logic.States.{State}
 use Rattle.fsl_flow.specs.declared.job.Job.{Job}
 use Rattle.fsl_flow.specs.declared.continuation.Frame as framing
 use Rattle.fsl_flow.specs.Next.{next_from}
-use Rattle.fsl_flow.specs.Paths.{is_supported_frame, is_supported_leaving}
+use Rattle.fsl_flow.specs.Paths.{is_supported_frame}
 
 pub none_first : {X Y : Type 0} (f : X → Y) → from_last f [] ≡ []
 unfolding from_last
@@ -29,10 +29,9 @@ next_taken job s frames more last frame leaving e f =
     ap (λ (frames : List Frame). next_from job s frames leaving) (taken frames more last e)
     ∙ ap (λ (x : Frame). next_from job s (x ∷ from_last frame_of more) leaving) f
 
-pub last_supported : (frames more : List framing.Frame) (last : framing.Frame) (frame : Frame) (leaving : Leaving) → frames ≡ more ++ last ∷ [] → frame_of last ≡ frame
-    → (list_all is_supported_frame (from_last frame_of frames) && is_supported_leaving leaving) ≡ true → is_supported_frame frame ≡ true
-last_supported frames more last frame leaving e f h =
-    let whole = (and_parts (list_all is_supported_frame (from_last frame_of frames)) (is_supported_leaving leaving) h).0 in
+pub last_supported : (frames more : List framing.Frame) (last : framing.Frame) (frame : Frame) → frames ≡ more ++ last ∷ [] → frame_of last ≡ frame
+    → list_all is_supported_frame (from_last frame_of frames) ≡ true → is_supported_frame frame ≡ true
+last_supported frames more last frame e f h =
     let parts = and_parts (is_supported_frame (frame_of last)) (list_all is_supported_frame (from_last frame_of more))
-    (ap (list_all is_supported_frame) (sym (taken frames more last e)) ∙ whole) in
+    (ap (list_all is_supported_frame) (sym (taken frames more last e)) ∙ h) in
     ap is_supported_frame (sym f) ∙ parts.0

@@ -1,4 +1,4 @@
--- Where a procedure starts and ends, by parts of the rules; and environments with zeros behind what is set.
+-- Where a procedure starts and ends, by parts of the rules.
 use Rattle.std.proofs.Common.{arith, ◌≡◌, ◌<◌, ℕ, zero, suc, ◌+◌, ◌-◌, [], ◌∷◌, ◌++◌, sym, ap, ◌∙◌, append-nil, add-one, add-suc, add-zero, Some, None, ◌≤◌, length, replicate, append_assoc, length-append}
 use Rattle.fsl_core.specs.declared.verdict.Kind.{Kind}
 use Rattle.fsl_core.specs.logic.States.{Env, State, goes, fails, followed, ◌>>=◌, give, new_symbol, done, change}
@@ -58,16 +58,3 @@ not_returned post e s h = without_term e (finish post) s h
 
 pub inv_given : (inv : Assertion) (s : State) → give_inv inv s ≡ followed (inv.consume mood.Loop Plain s.env s) (λ _. done)
 inv_given inv s = append-nil (followed (inv.consume mood.Loop Plain s.env s) (λ _. done))
-
-pub padded_full : (slots : ℕ) (env : Env) → slots ≤ length env → padded slots env ≡ env
-padded_full slots env h =
-    let e : slots - length env ≡ 0 = omega arith in
-    ap (λ (n : ℕ). env ++ replicate n nought) e ∙ append-nil env
-
-pub padded_more : (slots : ℕ) (env : Env) → length env < slots → padded slots (env ++ nought ∷ []) ≡ padded slots env
-padded_more slots env h =
-    let k : length (env ++ nought ∷ []) ≡ length env + 1 = length-append env (nought ∷ []) in
-    let e : slots - length env ≡ suc (slots - (length env + 1)) = omega arith in
-    append_assoc env (nought ∷ []) (replicate (slots - length (env ++ nought ∷ [])) nought)
-    ∙ ap (λ (n : ℕ). env ++ (nought ∷ replicate (slots - n) nought)) k
-    ∙ ap (λ (n : ℕ). env ++ replicate n nought) (sym e)

@@ -4,7 +4,7 @@ use Rattle.fsl_core.specs.declared.act.Stmt.{Stmt}
 use Rattle.fsl_core.specs.logic.States.{State, goes, fails, Branches, Action}
 use Rattle.fsl_core.specs.logic.Slots.{past}
 use Rattle.fsl_core.specs.logic.Paths.{Ends, Meaning, Reading, block, stmt_of, each, act_step, stmt_step, return, give_inv, round, path_ends}
-use Rattle.fsl_flow.specs.Paths.{act_meaning, meanings, reading, frame_ends, continuation_ends, item_ends, is_supported_frame, is_supported_leaving, is_supported_continuation}
+use Rattle.fsl_flow.specs.Paths.{act_meaning, meanings, reading, frame_ends, continuation_ends, item_ends, is_supported_frame, is_supported_continuation}
 use Rattle.fsl_flow.specs.Sets.{act_sets, stmts_set}
 use Rattle.fsl_flow.proofs.SetsLemmas.{stmt_layer, sets_same, all_same}
 use Rattle.std.specs.List.{flat_map, list_all}
@@ -17,13 +17,14 @@ use Rattle.fsl_core.specs.declared.act.Act.TheViews.{out-Act}
 use Rattle.fsl_core.specs.declared.act.Act.TheFolds.{fold-Stmt, fold_out-Act, map-Act}
 use Rattle.fsl_core.specs.declared.assertion.Asrt.{Asrt}
 use Rattle.fsl_core.specs.declared.expr.Cond.{Cond}
-use Rattle.fsl_core.specs.declared.mode.Mode.TheVariants.{Na}
 use Rattle.fsl_core.specs.Verdicts.{End, derived, failed}
 use Rattle.fsl_core.specs.logic.Terms.{expr_of}
 use Rattle.fsl_core.specs.logic.Deciding.{cond_of}
 use Rattle.fsl_core.specs.logic.Joining.{nought}
-use Rattle.fsl_core.specs.logic.Producing.{chosen}
+use Rattle.fsl_core.specs.logic.Producing.{chosen, inst_of}
 use Rattle.fsl_core.specs.logic.Assertions.{asrt_of}
+use Rattle.fsl_core.specs.logic.Accesses.{alloc_at, load, store}
+use Rattle.fsl_core.specs.logic.Fences.{fence}
 use Rattle.fsl_core.specs.logic.Calls.{finish, call, call_of, par}
 use Rattle.fsl_core.specs.logic.Locations.{setting_of}
 use Rattle.fsl_flow.specs.declared.job.Job.{Job}
@@ -96,8 +97,14 @@ act_layer job stmt declared s left f h a b (Act-F.Par calls) is e =
     sym (going_ends job stmt.span (par (setting_of asrt_of job.program.now) (map (call_of expr_of) calls) s) left)
 act_layer job stmt declared s left f h a b (Act-F.Set slot v) is e = simple_ends job stmt s left _ e
 act_layer job stmt declared s left f h a b (Act-F.AllocNa slot) is e = simple_ends job stmt s left _ e
-act_layer job stmt declared s left f h a b (Act-F.Load slot Na at) is e = simple_ends job stmt s left _ e
-act_layer job stmt declared s left f h a b (Act-F.Store Na at v) is e = simple_ends job stmt s left _ e
+act_layer job stmt declared s left f h a b (Act-F.Free at) is e = simple_ends job stmt s left _ e
+act_layer job stmt declared s left f h a b (Act-F.AllocAt slot rmw inst) is e =
+    sym (going_ends job stmt.span (alloc_at (setting_of asrt_of job.program.now) slot rmw (inst_of expr_of inst) s) left)
+act_layer job stmt declared s left f h a b (Act-F.Load slot mode at) is e =
+    sym (going_ends job stmt.span (load (setting_of asrt_of job.program.now) slot mode (expr_of at) s) left)
+act_layer job stmt declared s left f h a b (Act-F.Store mode at v) is e =
+    sym (going_ends job stmt.span (store (setting_of asrt_of job.program.now) mode (expr_of at) (expr_of v) s) left)
+act_layer job stmt declared s left f h a b (Act-F.Fence mode asrt) is e = sym (going_ends job stmt.span (fence mode (asrt_of asrt) s) left)
 act_layer job stmt declared s left f h a b (Act-F.Assert cond) is e = simple_ends job stmt s left _ e
 act_layer job stmt declared s left f h a b (Act-F.Print v) is e = simple_ends job stmt s left _ e
 act_layer job stmt declared s left f h a b _ is e = cc
@@ -150,4 +157,4 @@ pub next_ends : (job : Job) (s : State) (left : Continuation) → is_supported_c
     → item_ends job (goes_on s left) ≡ flat_map (item_ends job) (next job (goes_on s left))
 unfolding item_ends
 next_ends job s left supported =
-    from_ends job s left.frames left.leaving ((and_parts (list_all is_supported_frame left.frames) (is_supported_leaving left.leaving) supported).0)
+    from_ends job s left.frames left.leaving supported

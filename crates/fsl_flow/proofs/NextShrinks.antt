@@ -15,19 +15,20 @@ use Rattle.fsl_core.specs.logic.States.{State, goes, fails, Branches}
 use Rattle.fsl_core.specs.logic.Terms.{expr_of}
 use Rattle.fsl_core.specs.logic.Deciding.{cond_of}
 use Rattle.fsl_core.specs.logic.Joining.{nought}
-use Rattle.fsl_core.specs.logic.Producing.{chosen}
+use Rattle.fsl_core.specs.logic.Producing.{chosen, inst_of}
 use Rattle.fsl_core.specs.logic.Assertions.{asrt_of}
+use Rattle.fsl_core.specs.logic.Accesses.{alloc_at, load, store}
+use Rattle.fsl_core.specs.logic.Fences.{fence}
 use Rattle.fsl_core.specs.logic.Calls.{finish, call, call_of, par}
 use Rattle.fsl_core.specs.logic.Locations.{setting_of}
 use Rattle.fsl_core.specs.logic.Slots.{past}
 use Rattle.fsl_core.specs.logic.Paths.{return, give_inv, round}
-use Rattle.fsl_asrt.specs.Supported as assertions
 use Rattle.fsl_flow.specs.declared.job.Job.{Job}
 use Rattle.fsl_flow.specs.Supported.{supported_step, is_supported_act, is_supported_stmt, are_supported}
 use Rattle.fsl_flow.specs.Next.{items, goes_to, next_act, next_block, next_turn, next_exit, next_from, next}
 use Rattle.fsl_flow.specs.Continuation.{Frame, in_block, in_loop, Leaving, closes, gives_back, Continuation, within}
 use Rattle.fsl_flow.specs.Pending.{Item, goes_on, over}
-use Rattle.fsl_flow.specs.Paths.{is_supported_frame, is_supported_leaving, is_supported_continuation, is_supported_item, total, weight_step, stmt_weight_step, act_weight, stmt_weight, weight, frame_weight, continuation_weight, item_weight, steps_by, steps}
+use Rattle.fsl_flow.specs.Paths.{is_supported_frame, is_supported_continuation, is_supported_item, total, weight_step, stmt_weight_step, act_weight, stmt_weight, weight, frame_weight, continuation_weight, item_weight, steps_by, steps}
 use Rattle.fsl_flow.specs.Looping.{decided_here, body_round}
 use Rattle.fsl_flow.specs.Sets.{act_sets, stmts_set}
 use Rattle.fsl_flow.specs.Statements.{action_of}
@@ -64,9 +65,6 @@ going_supported at bs left h =
 pub both : (a b : Bool) → a ≡ true → b ≡ true → (a && b) ≡ true
 both a b h k = rw (h, k) refl
 
-inside_supported : (a b c : Bool) → a ≡ true → (b && c) ≡ true → ((a && b) && c) ≡ true
-inside_supported a b c h k = rw h k
-
 -- ---- statements
 
 side_follows : (most : ℕ) (a b : List Stmt) (declared : ℕ) (left : Continuation) → are_supported a ≡ true → are_supported b ≡ true → is_supported_continuation left ≡ true
@@ -74,11 +72,11 @@ side_follows : (most : ℕ) (a b : List Stmt) (declared : ℕ) (left : Continuat
     → Follows most (goes_on s (within (in_block (chosen a b holds) declared) left))
 side_follows most a b declared left h k l less true s = record {
   lighter = omega arith;
-  supported = inside_supported (are_supported a) (list_all is_supported_frame left.frames) (is_supported_leaving left.leaving) h l;
+  supported = both (are_supported a) (list_all is_supported_frame left.frames) h l;
 }
 side_follows most a b declared left h k l less false s = record {
   lighter = omega arith;
-  supported = inside_supported (are_supported b) (list_all is_supported_frame left.frames) (is_supported_leaving left.leaving) k l;
+  supported = both (are_supported b) (list_all is_supported_frame left.frames) k l;
 }
 
 act_follows : (job : Job) (stmt : Stmt) (declared : ℕ) (s : State) (left : Continuation) (f : Act → ℕ) (h : Act → Bool) (x : Act-F Act Stmt)
@@ -93,7 +91,7 @@ act_follows job stmt declared s left f h (Act-F.While cond inv body) is k =
     items_follow (continuation_weight left + (weight body + 1) + 2) stmt.span (give_inv (asrt_of inv) s)
     (λ x t. goes_on t (within (in_loop stmt.span cond inv body declared) left)) (omega arith) (λ x t. record {
       lighter = omega arith;
-      supported = inside_supported (assertions.is_supported inv && are_supported body) (list_all is_supported_frame left.frames) (is_supported_leaving left.leaving) is k;
+      supported = both (are_supported body) (list_all is_supported_frame left.frames) is k;
     })
 act_follows job stmt declared s left f h (Act-F.Return e) is k =
     items_follow (continuation_weight left + 0 + 2) stmt.span (return (asrt_of job.proc.now.post) (expr_of e) s) (λ x t. over (derived stmt.span)) (omega arith)
@@ -103,6 +101,18 @@ act_follows job stmt declared s left f h (Act-F.Call slot proc args) is k =
     (omega arith) (λ x t. record { lighter = omega arith; supported = k })
 act_follows job stmt declared s left f h (Act-F.Par calls) is k =
     items_follow (continuation_weight left + 0 + 2) stmt.span (par (setting_of asrt_of job.program.now) (map (call_of expr_of) calls) s) (λ x t. goes_on t left)
+    (omega arith) (λ x t. record { lighter = omega arith; supported = k })
+act_follows job stmt declared s left f h (Act-F.AllocAt slot rmw inst) is k =
+    items_follow (continuation_weight left + 0 + 2) stmt.span (alloc_at (setting_of asrt_of job.program.now) slot rmw (inst_of expr_of inst) s) (λ x t. goes_on t left)
+    (omega arith) (λ x t. record { lighter = omega arith; supported = k })
+act_follows job stmt declared s left f h (Act-F.Load slot mode at) is k =
+    items_follow (continuation_weight left + 0 + 2) stmt.span (load (setting_of asrt_of job.program.now) slot mode (expr_of at) s) (λ x t. goes_on t left)
+    (omega arith) (λ x t. record { lighter = omega arith; supported = k })
+act_follows job stmt declared s left f h (Act-F.Store mode at e) is k =
+    items_follow (continuation_weight left + 0 + 2) stmt.span (store (setting_of asrt_of job.program.now) mode (expr_of at) (expr_of e) s) (λ x t. goes_on t left)
+    (omega arith) (λ x t. record { lighter = omega arith; supported = k })
+act_follows job stmt declared s left f h (Act-F.Fence mode asrt) is k =
+    items_follow (continuation_weight left + 0 + 2) stmt.span (fence mode (asrt_of asrt) s) (λ x t. goes_on t left)
     (omega arith) (λ x t. record { lighter = omega arith; supported = k })
 act_follows job stmt declared s left f h _ is k =
     items_follow (continuation_weight left + 0 + 2) stmt.span (action_of stmt.act s) (λ x t. goes_on t left) (omega arith)
@@ -121,21 +131,21 @@ block_follows job s (stmt ∷ others) declared up h k =
     subst (λ (most : ℕ). AllFollow most (next_block job s (stmt ∷ others) declared up)) same
     (act_follows job stmt declared s rest act_weight is_supported_act (out-Act stmt.act)
     (sym (fold_out-Act Bool Bool supported_step (λ x. x.act) stmt.act) ∙ head_supported stmt others h)
-    (inside_supported (are_supported others) (list_all is_supported_frame up.frames) (is_supported_leaving up.leaving) (tail_supported stmt others h) k))
+    (both (are_supported others) (list_all is_supported_frame up.frames) (tail_supported stmt others h) k))
 
 -- ---- loops
 
 turn_follows : (at : Span) (cond : Cond) (inv : Asrt) (body : List Stmt) (declared : ℕ) (s : State) (up : Continuation)
-    → assertions.is_supported inv ≡ true → are_supported body ≡ true → is_supported_continuation up ≡ true
+    → are_supported body ≡ true → is_supported_continuation up ≡ true
     → AllFollow (weight body + 2 + continuation_weight up) (next_turn at cond inv body declared s up)
-turn_follows at cond inv body declared s up h k l =
+turn_follows at cond inv body declared s up k l =
     let most : ℕ = weight body + 2 + continuation_weight up in
     let alone : Continuation = record { frames = in_block body declared ∷ []; leaving = gives_back at inv } in
     let inside : Branches (Unit {0}) = body_round (cond_of expr_of cond) (asrt_of inv) declared (stmts_set body) s in
     let behind : Branches (Unit {0}) = round false (cond_of expr_of cond) (asrt_of inv) declared (stmts_set body) s in
     both_follow most (items at inside (λ x t. goes_on t alone)) (items at behind (λ x t. goes_on t up))
     (items_follow most at inside (λ x t. goes_on t alone) (omega arith)
-    (λ x t. record { lighter = omega arith; supported = inside_supported (are_supported body) true (assertions.is_supported inv) k h }))
+    (λ x t. record { lighter = omega arith; supported = both (are_supported body) true k refl }))
     (items_follow most at behind (λ x t. goes_on t up) (omega arith) (λ x t. record { lighter = omega arith; supported = l }))
 
 -- ---- a path
@@ -146,27 +156,22 @@ exit_follows job s (closes at) =
 exit_follows job s (gives_back at inv) =
     items_follow 1 at (give_inv (asrt_of inv) s) (λ x t. over (derived at)) (omega arith) (λ x t. record { lighter = omega arith; supported = refl })
 
-from_follows : (job : Job) (s : State) (frames : List Frame) (leaving : Leaving) → list_all is_supported_frame frames ≡ true → is_supported_leaving leaving ≡ true
+from_follows : (job : Job) (s : State) (frames : List Frame) (leaving : Leaving) → list_all is_supported_frame frames ≡ true
     → AllFollow (total (map frame_weight frames) + 1) (next_from job s frames leaving)
-from_follows job s [] leaving h k = exit_follows job s leaving
-from_follows job s (in_block stmts declared ∷ frames) leaving h k =
+from_follows job s [] leaving h = exit_follows job s leaving
+from_follows job s (in_block stmts declared ∷ frames) leaving h =
     let up : Continuation = record { frames = frames; leaving = leaving } in
     let parts = and_parts (are_supported stmts) (list_all is_supported_frame frames) h in
     let same : weight stmts + 1 + continuation_weight up ≡ total (map frame_weight (in_block stmts declared ∷ frames)) + 1 = omega arith in
-    subst (λ (most : ℕ). AllFollow most (next_block job s stmts declared up)) same
-    (block_follows job s stmts declared up parts.0 (both (list_all is_supported_frame frames) (is_supported_leaving leaving) parts.1 k))
-from_follows job s (in_loop at cond inv body declared ∷ frames) leaving h k =
+    subst (λ (most : ℕ). AllFollow most (next_block job s stmts declared up)) same (block_follows job s stmts declared up parts.0 parts.1)
+from_follows job s (in_loop at cond inv body declared ∷ frames) leaving h =
     let up : Continuation = record { frames = frames; leaving = leaving } in
-    let parts = and_parts (assertions.is_supported inv && are_supported body) (list_all is_supported_frame frames) h in
-    let loop = and_parts (assertions.is_supported inv) (are_supported body) parts.0 in
+    let parts = and_parts (are_supported body) (list_all is_supported_frame frames) h in
     let same : weight body + 2 + continuation_weight up ≡ total (map frame_weight (in_loop at cond inv body declared ∷ frames)) + 1 = omega arith in
-    subst (λ (most : ℕ). AllFollow most (next_turn at cond inv body declared s up)) same
-    (turn_follows at cond inv body declared s up loop.0 loop.1 (both (list_all is_supported_frame frames) (is_supported_leaving leaving) parts.1 k))
+    subst (λ (most : ℕ). AllFollow most (next_turn at cond inv body declared s up)) same (turn_follows at cond inv body declared s up parts.0 parts.1)
 
 pub next_follows : (job : Job) (item : Item) → is_supported_item item ≡ true → AllFollow (item_weight item) (next job item)
-next_follows job (goes_on s left) h =
-    let parts = and_parts (list_all is_supported_frame left.frames) (is_supported_leaving left.leaving) h in
-    from_follows job s left.frames left.leaving parts.0 parts.1
+next_follows job (goes_on s left) h = from_follows job s left.frames left.leaving h
 next_follows job (over end) h = tt
 
 -- ---- steps

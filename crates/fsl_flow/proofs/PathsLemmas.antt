@@ -24,7 +24,6 @@ use Rattle.fsl_flow.specs.Next.{goes_to, next}
 use Rattle.fsl_flow.specs.Continuation.{in_block, closes, Continuation}
 use Rattle.fsl_flow.specs.Pending.{Item, goes_on, over, item_of, stack}
 use Rattle.fsl_flow.specs.Paths.{reading, continuation_ends, item_ends, is_supported_continuation, is_supported_item, total, item_weight, steps}
-use Rattle.fsl_flow.proofs.SupportedLemmas.{body_supported}
 use Rattle.fsl_flow.proofs.NextEnds.{going_ends, next_ends}
 use Rattle.fsl_flow.proofs.NextShrinks.{both, follow_supported, going_supported, next_follows, steps_next}
 use Rattle.fsl_flow.proofs.ContinuationLemmas.{none_first, last_first}
@@ -155,5 +154,4 @@ judged job first bs e h =
 pub judged_supported : (job : Job) (first : List Item) (bs : Branches (Unit {0})) → first ≡ goes_to nowhere bs (whole_body job)
     → is_supported_proc job.proc.now ≡ true → list_all is_supported_item first ≡ true
 judged_supported job first bs e h =
-    let body : is_supported_continuation (whole_body job) ≡ true = both (are_supported job.proc.now.body && true) true (both (are_supported job.proc.now.body) true (body_supported job.proc.now h) refl) refl in
-    ap (list_all is_supported_item) e ∙ going_supported nowhere bs (whole_body job) body
+    ap (list_all is_supported_item) e ∙ going_supported nowhere bs (whole_body job) (both (are_supported job.proc.now.body) true h refl)

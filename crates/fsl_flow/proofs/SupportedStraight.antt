@@ -2,20 +2,15 @@
 use Rattle.std.proofs.Common.{◌≡◌, ℕ, Bool, true, ◌&&◌, List, [], ◌∷◌, refl, sym, ap, ◌∙◌}
 use Rattle.std.specs.List.{list_all}
 use Rattle.std.proofs.lemmas.Bool.{and_parts}
-use Rattle.fsl_asrt.specs.Supported as assertions
 use Rattle.fsl_core.specs.declared.act.Act.{Act}
 use Rattle.fsl_core.specs.declared.act.Act.TheFolds.{fold-Stmt, fold_out-Act, fold_out-Stmt, map-Act}
 use Rattle.fsl_core.specs.declared.act.Act.TheOpen.{Act-F}
 use Rattle.fsl_core.specs.declared.act.Act.TheViews.{out-Act}
 use Rattle.fsl_core.specs.declared.act.Stmt.{Stmt}
-use Rattle.fsl_core.specs.declared.assertion.Asrt.{Asrt}
-use Rattle.fsl_core.specs.declared.assertion.Asrt.TheFolds.{fold_out-Asrt, map-Asrt}
-use Rattle.fsl_core.specs.declared.assertion.Asrt.TheOpen.{Asrt-F}
-use Rattle.fsl_core.specs.declared.assertion.Asrt.TheViews.{out-Asrt}
 use Rattle.fsl_core.specs.declared.mode.Mode.TheVariants.{Na}
 use Rattle.fsl_core.specs.declared.declaration.Proc.{Proc}
 use Rattle.fsl_core.specs.Programs.{Program}
-use Rattle.fsl_core.specs.Straight.{Test, straight_step, is_straight_act, emp_step, is_emp, is_straight_proc, is_one_straight, is_straight, is_empty}
+use Rattle.fsl_core.specs.Straight.{Test, straight_step, is_straight_act, is_straight_proc, is_one_straight, is_straight, is_empty}
 use Rattle.fsl_flow.specs.Supported.{supported_step, is_supported_act, is_supported_stmt, are_supported, is_supported_proc, is_supported}
 
 both : (a b : Bool) → a ≡ true → b ≡ true → (a && b) ≡ true
@@ -44,22 +39,8 @@ body_supported slots (stmt ∷ stmts) is =
     both (is_supported_stmt stmt) (are_supported stmts)
     (fold_out-Stmt Bool Bool supported_step (λ s. s.act) stmt ∙ act_supported stmt.act slots parts.0) (body_supported slots stmts parts.1)
 
-emp_layer : (f g : Asrt → Bool) (a : Asrt-F Asrt) → emp_step (map-Asrt Asrt Bool f a) ≡ true
-    → assertions.supported_step (map-Asrt Asrt Bool g a) ≡ true
-emp_layer f g Asrt-F.Emp is = refl
-emp_layer f g _ is = cc
-
-emp_supported : (a : Asrt) → is_emp a ≡ true → assertions.is_supported a ≡ true
-emp_supported a is =
-    fold_out-Asrt Bool assertions.supported_step a
-    ∙ emp_layer is_emp assertions.is_supported (out-Asrt a) (sym (fold_out-Asrt Bool emp_step a) ∙ is)
-
 proc_supported : (q : Proc) → is_straight_proc q ≡ true → is_supported_proc q ≡ true
-proc_supported q is =
-    let with_body = and_parts _ _ (and_parts _ _ is).0 in
-    let with_post = and_parts _ _ (and_parts _ _ with_body.0).0 in
-    let with_pre = and_parts _ _ with_post.0 in
-    both _ _ (both _ _ (emp_supported q.pre with_pre.1) (emp_supported q.post with_post.1)) (body_supported q.slots q.body with_body.1)
+proc_supported q is = body_supported q.slots q.body (and_parts _ _ (and_parts _ _ is).0).1
 
 procs_supported : (qs : List Proc) → is_one_straight qs ≡ true → list_all is_supported_proc qs ≡ true
 procs_supported [] is = cc
@@ -67,6 +48,4 @@ procs_supported (q ∷ []) is = both _ _ (proc_supported q is) refl
 procs_supported (q ∷ (r ∷ rs)) is = cc
 
 pub supported : (p : Program) → is_straight p ≡ true → is_supported p ≡ true
-supported p is =
-    let parts = and_parts (is_empty p.invs) (is_one_straight p.procs) is in
-    both (is_empty p.invs) (list_all is_supported_proc p.procs) parts.0 (procs_supported p.procs parts.1)
+supported p is = procs_supported p.procs (and_parts (is_empty p.invs) (is_one_straight p.procs) is).1

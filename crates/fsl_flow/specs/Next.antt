@@ -12,8 +12,10 @@ use Rattle.fsl_core.specs.logic.States.{State, goes, fails, Branches}
 use Rattle.fsl_core.specs.logic.Terms.{expr_of}
 use Rattle.fsl_core.specs.logic.Deciding.{cond_of}
 use Rattle.fsl_core.specs.logic.Joining.{nought}
-use Rattle.fsl_core.specs.logic.Producing.{chosen}
+use Rattle.fsl_core.specs.logic.Producing.{chosen, inst_of}
 use Rattle.fsl_core.specs.logic.Assertions.{asrt_of}
+use Rattle.fsl_core.specs.logic.Accesses.{alloc_at, load, store}
+use Rattle.fsl_core.specs.logic.Fences.{fence}
 use Rattle.fsl_core.specs.logic.Calls.{finish, call, call_of, par}
 use Rattle.fsl_core.specs.logic.Locations.{setting_of}
 use Rattle.fsl_core.specs.logic.Paths.{return, give_inv, round}
@@ -50,6 +52,13 @@ next_act job stmt declared s left (Act-F.Call slot proc args) =
     goes_to stmt.span (call (setting_of asrt_of job.program.now) slot proc (map expr_of args) s) left
 next_act job stmt declared s left (Act-F.Par calls) =
     goes_to stmt.span (par (setting_of asrt_of job.program.now) (map (call_of expr_of) calls) s) left
+next_act job stmt declared s left (Act-F.AllocAt slot rmw inst) =
+    goes_to stmt.span (alloc_at (setting_of asrt_of job.program.now) slot rmw (inst_of expr_of inst) s) left
+next_act job stmt declared s left (Act-F.Load slot mode at) =
+    goes_to stmt.span (load (setting_of asrt_of job.program.now) slot mode (expr_of at) s) left
+next_act job stmt declared s left (Act-F.Store mode at e) =
+    goes_to stmt.span (store (setting_of asrt_of job.program.now) mode (expr_of at) (expr_of e) s) left
+next_act job stmt declared s left (Act-F.Fence mode asrt) = goes_to stmt.span (fence mode (asrt_of asrt) s) left
 next_act job stmt declared s left _ = goes_to stmt.span (action_of stmt.act s) left
 
 -- of a statement, given what is left behind it

@@ -1,5 +1,5 @@
 -- The ends of what waits to be followed, and how many steps it takes.
-use Rattle.std.specs.Prelude.{ℕ, zero, suc, ◌+◌, Bool, true, ◌&&◌, List, [], ◌∷◌, ◌++◌, map}
+use Rattle.std.specs.Prelude.{ℕ, zero, suc, ◌+◌, Bool, true, List, [], ◌∷◌, ◌++◌, map}
 use Rattle.std.specs.List.{list_all}
 use Rattle.fsl_base.specs.declared.span.Span.{Span}
 use Rattle.fsl_core.specs.declared.act.Act.{Act}
@@ -11,7 +11,6 @@ use Rattle.fsl_core.specs.logic.Terms.{expr_of}
 use Rattle.fsl_core.specs.logic.Deciding.{cond_of}
 use Rattle.fsl_core.specs.logic.Assertions.{asrt_of}
 use Rattle.fsl_core.specs.logic.Paths.{Ends, Meaning, Reading, each, block, act_step, stmt_step, stmt_of, reading_by, closing, path_ends, give_inv, body_ends, behind_ends}
-use Rattle.fsl_asrt.specs.Supported as assertions
 use Rattle.fsl_flow.specs.Supported.{are_supported}
 use Rattle.fsl_flow.specs.declared.job.Job.{Job}
 use Rattle.fsl_flow.specs.Next.{next}
@@ -53,18 +52,14 @@ unfoldable pub item_ends : Job → Item → List End
 item_ends job (goes_on s left) = continuation_ends (reading job) left s
 item_ends job (over end) = end ∷ []
 
--- ---- every statement and every invariant that is left is of a supported program
+-- ---- every statement that is left is supported
 
 abbrev pub is_supported_frame : Frame → Bool
 is_supported_frame (in_block stmts declared) = are_supported stmts
-is_supported_frame (in_loop at cond inv body declared) = assertions.is_supported inv && are_supported body
-
-abbrev pub is_supported_leaving : Leaving → Bool
-is_supported_leaving (closes at) = true
-is_supported_leaving (gives_back at inv) = assertions.is_supported inv
+is_supported_frame (in_loop at cond inv body declared) = are_supported body
 
 abbrev pub is_supported_continuation : Continuation → Bool
-is_supported_continuation left = list_all is_supported_frame left.frames && is_supported_leaving left.leaving
+is_supported_continuation left = list_all is_supported_frame left.frames
 
 abbrev pub is_supported_item : Item → Bool
 is_supported_item (goes_on s left) = is_supported_continuation left

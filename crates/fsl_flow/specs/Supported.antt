@@ -1,33 +1,25 @@
--- Programs whose paths are followed so far: no invariants of atomic locations; statements that set, allocate, load,
--- store, assert and print, calls, threads side by side, branches, loops and returns; assertions of facts, cells and choices.
+-- Programs whose paths are followed so far: all statements but read-modify-writes, and those of banks of tokens.
 use Rattle.std.specs.Prelude.{Bool, true, false, ◌&&◌, List, map}
 use Rattle.std.specs.List.{list_all}
 use Rattle.fsl_core.specs.declared.act.Act.{Act}
 use Rattle.fsl_core.specs.declared.act.Stmt.{Stmt}
 use Rattle.fsl_core.specs.declared.act.Act.TheOpen.{Act-F}
 use Rattle.fsl_core.specs.declared.act.Act.TheFolds.{fold-Act, fold-Stmt}
-use Rattle.fsl_core.specs.declared.mode.Mode.TheVariants.{Na}
 use Rattle.fsl_core.specs.declared.declaration.Proc.{Proc}
 use Rattle.fsl_core.specs.Programs.{Program}
-use Rattle.fsl_core.specs.Straight.{is_empty}
-use Rattle.fsl_asrt.specs.Supported as assertions
 
 abbrev pub all : List Bool → Bool
 all tests = list_all (λ test. test) tests
 
 abbrev pub supported_step : Act-F Bool Bool → Bool
-supported_step (Act-F.Set slot e) = true
-supported_step (Act-F.AllocNa slot) = true
-supported_step (Act-F.Load slot Na at) = true
-supported_step (Act-F.Store Na at e) = true
-supported_step (Act-F.Call slot proc args) = true
-supported_step (Act-F.Par calls) = true
+supported_step (Act-F.Cas slot mode fail at old new steps) = false
+supported_step (Act-F.Add slot mode at e steps) = false
+supported_step (Act-F.Swap slot mode at e steps) = false
+supported_step (Act-F.Bank slot) = false
+supported_step (Act-F.Step step) = false
 supported_step (Act-F.If cond a b) = all a && all b
-supported_step (Act-F.While cond inv body) = assertions.is_supported inv && all body
-supported_step (Act-F.Assert cond) = true
-supported_step (Act-F.Print e) = true
-supported_step (Act-F.Return e) = true
-supported_step _ = false
+supported_step (Act-F.While cond inv body) = all body
+supported_step _ = true
 
 abbrev pub is_supported_act : Act → Bool
 is_supported_act = fold-Act Bool Bool supported_step (λ stmt. stmt.act)
@@ -39,7 +31,7 @@ abbrev pub are_supported : List Stmt → Bool
 are_supported stmts = all (map is_supported_stmt stmts)
 
 abbrev pub is_supported_proc : Proc → Bool
-is_supported_proc q = assertions.is_supported q.pre && assertions.is_supported q.post && are_supported q.body
+is_supported_proc q = are_supported q.body
 
 abbrev pub is_supported : Program → Bool
-is_supported p = is_empty p.invs && list_all is_supported_proc p.procs
+is_supported p = list_all is_supported_proc p.procs

@@ -1,5 +1,5 @@
 //! The rules of calls.
-ghost use Rattle.std.specs.Prelude.{◌≡◌, [], ◌∷◌, map, slice_get, IfOk, IfSome, IsTrue, Some};
+ghost use Rattle.std.specs.Prelude.{◌≡◌, [], ◌∷◌, map, slice_get, IfOk, IfSome, Some};
 ghost use Rattle.std.specs.List.{list_all};
 ghost use Rattle.std.specs.Option.{option_copied};
 ghost use Rattle.fsl_core.specs.declared.verdict.Kind.TheVariants as kind;
@@ -10,11 +10,10 @@ ghost use Rattle.fsl_core.specs.logic.Locations.{setting_of, contract_of};
 ghost use Rattle.fsl_core.specs.logic.Calls as rules;
 ghost use Rattle.fsl_core.specs.logic.Calls.{gain_post, set_result};
 ghost use Rattle.fsl_asrt.specs.Branch.{branches, bounds};
-ghost use Rattle.fsl_flow.specs.Supported.{is_supported_proc};
 ghost use Rattle.fsl_flow.specs.Calls.{gained, behind_pre};
 
-use crate::contract::{failing, padded, without_env};
 use crate::says::says;
+use fsl_access::{failing, going, padded, set_on_each, without_env};
 use fsl_asrt::{Bound, Branch, consume, produce, read};
 use fsl_base::{List, TryClone};
 use fsl_chunk::{Env, Made, State};
@@ -32,7 +31,6 @@ pub fn call(
     proc: u32,
     args: &[Expr],
 ) -> Result<List<Branch>, AllocError>
-    requires { IsTrue (list_all is_supported_proc p.now.procs) }
     ensures { IfOk result (λ bs. branches bs ≡ rules.call (setting_of asrt_of p.now) slot proc (map expr_of args.now) state) }
 {
     match arguments(alloc, &state, args)? {
@@ -45,17 +43,14 @@ pub fn call(
 }
 
 /// The procedure of a number; `None` exactly where there is no such procedure.
-#[tactic(auto, using(crate::proofs::CallsLemmas::found_supported))]
 pub fn procedure(p: &Program, number: u32) -> Option<&Proc>
-    requires { IsTrue (list_all is_supported_proc p.now.procs) }
-    ensures found { option_copied result ≡ slice_get p.now.procs number }
-    ensures supported { IfSome result (λ q. IsTrue (is_supported_proc q.now)) }
+    ensures { option_copied result ≡ slice_get p.now.procs number }
 {
     p.procs().get(number as usize)
 }
 
 /// The terms of arguments over the variables as they are; `None` where one of them has none.
-#[tactic(auto, using(crate::proofs::CallsLemmas::args_wide, crate::proofs::CallsLemmas::args_done))]
+#[tactic(auto, using(fsl_asrt::proofs::LeavesLemmas::terms_wide, fsl_asrt::proofs::LeavesLemmas::terms_done))]
 pub fn arguments(alloc: Global, state: &State, args: &[Expr]) -> Result<Option<Env>, AllocError>
     ensures { IfOk result (λ ts. demand_some kind.Term ts state.now ≡ terms (map expr_of args.now) state.now.env state.now) }
 {
@@ -69,17 +64,7 @@ pub fn arguments(alloc: Global, state: &State, args: &[Expr]) -> Result<Option<E
     Ok(Some(out))
 }
 
-/// The one branch that goes on.
-pub fn going(alloc: Global, state: State) -> Result<List<Branch>, AllocError>
-    ensures { IfOk result (λ bs. branches bs ≡ goes tt state ∷ []) }
-{
-    let mut out = List::new(alloc);
-    out.push(Branch::Goes { state })?;
-    Ok(out)
-}
-
 /// A call of a procedure: its `requires` is consumed, and on each branch its `ensures` is produced.
-#[tactic(auto, using(crate::proofs::SupportedLemmas::pre_supported, crate::proofs::SupportedLemmas::post_supported))]
 fn call_proc(
     alloc: Global,
     state: State,
@@ -87,7 +72,6 @@ fn call_proc(
     q: &Proc,
     args: Env,
 ) -> Result<List<Branch>, AllocError>
-    requires { IsTrue (is_supported_proc q.now) }
     ensures { IfOk result (λ bs. branches bs ≡ rules.call_proc slot (Some (contract_of asrt_of q.now)) args state) }
 {
     let env = padded(alloc, args, q.slots)?;
@@ -104,7 +88,6 @@ fn behind_each(
     named: bool,
     q: &Proc,
 ) -> Result<List<Branch>, AllocError>
-    requires { IsTrue (is_supported_proc q.now) }
     ensures { IfOk result (λ bs. branches bs ≡ followed (bounds given) (behind_pre slot named (contract_of asrt_of q.now))) }
 {
     let mut out = List::new(alloc);
@@ -130,7 +113,6 @@ fn behind_pre(
     q: &Proc,
     env: Env,
 ) -> Result<List<Branch>, AllocError>
-    requires { IsTrue (is_supported_proc q.now) }
     ensures { IfOk result (λ bs. branches bs ≡ behind_pre slot named (contract_of asrt_of q.now) env state) }
 {
     if !named {
@@ -151,7 +133,6 @@ fn gained(
     env: Env,
     t: Option<Lin>,
 ) -> Result<List<Branch>, AllocError>
-    requires { IsTrue (is_supported_proc q.now) }
     ensures { IfOk result (λ bs. branches bs ≡ gained slot (contract_of asrt_of q.now) env t state) }
 {
     match t {
@@ -165,7 +146,6 @@ fn gained(
 }
 
 /// The `ensures` of a procedure is produced, with the result behind the variables.
-#[tactic(auto, using(crate::proofs::SupportedLemmas::post_supported))]
 pub fn gain_post(
     alloc: Global,
     state: State,
@@ -173,7 +153,6 @@ pub fn gain_post(
     env: Env,
     t: Option<Lin>,
 ) -> Result<List<Branch>, AllocError>
-    requires { IsTrue (is_supported_proc q.now) }
     ensures { IfOk result (λ bs. branches bs ≡ gain_post (contract_of asrt_of q.now) env t state) }
 {
     let mut env = env;
@@ -197,26 +176,4 @@ fn set_each(
         Some(number) => set_on_each(alloc, gained, number, t),
         None => Ok(gained),
     }
-}
-
-/// On each branch a variable is set.
-fn set_on_each(
-    alloc: Global,
-    gained: List<Branch>,
-    number: u32,
-    t: &Lin,
-) -> Result<List<Branch>, AllocError>
-    ensures { IfOk result (λ bs. branches bs ≡ followed (branches gained) (λ _. set number t.now)) }
-{
-    let mut out = List::new(alloc);
-    for branch in gained.into_vec() {
-        match branch {
-            Branch::Goes { mut state } => {
-                state.set(alloc, number, t.try_clone(alloc)?)?;
-                out.push(Branch::Goes { state })?;
-            }
-            Branch::Fails { kind } => out.push(Branch::Fails { kind })?,
-        }
-    }
-    Ok(out)
 }

@@ -1,46 +1,23 @@
 //! Where a procedure starts and ends, and the invariants of its loops.
-ghost use Rattle.std.specs.Prelude.{◌≡◌, [], ◌∷◌, pos, IfOk, IsTrue, replicate};
-ghost use Rattle.fsl_core.specs.logic.States.{followed, done, new_symbol, change};
+ghost use Rattle.std.specs.Prelude.{◌≡◌, [], ◌∷◌, IfOk};
+ghost use Rattle.fsl_core.specs.logic.States.{followed, change};
 ghost use Rattle.fsl_core.specs.logic.Terms.{expr_of};
 ghost use Rattle.fsl_core.specs.logic.Deciding.{cond_of, assume_cond};
 ghost use Rattle.fsl_core.specs.logic.Joining.{nought};
 ghost use Rattle.fsl_core.specs.logic.Assertions.{asrt_of};
-ghost use Rattle.fsl_core.specs.logic.Locations.{contract_of, padded};
+ghost use Rattle.fsl_core.specs.logic.Locations.{contract_of};
 ghost use Rattle.fsl_core.specs.logic.Calls as calls;
 ghost use Rattle.fsl_core.specs.logic.Calls.{new_symbols, enter};
 ghost use Rattle.fsl_core.specs.logic.Paths.{start, return, give_inv};
 ghost use Rattle.fsl_asrt.specs.Branch.{branches, bounds, bound_of};
-ghost use Rattle.fsl_asrt.specs.Supported.{is_supported};
 
+use fsl_access::{failing, padded, without_env};
 use fsl_asrt::{Bound, Branch, constant, consume, produce, read};
 use fsl_base::List;
 use fsl_chunk::{Env, Made, State};
 use fsl_core::{Asrt, Expr, Kind, Mood, Proc, Rung};
 use fsl_lin::Lin;
 use std::alloc::{AllocError, Global};
-
-/// The one branch that fails.
-pub fn failing(alloc: Global, kind: Kind) -> Result<List<Branch>, AllocError>
-    ensures { IfOk result (λ bs. bs ≡ Branch.Fails kind ∷ []) }
-{
-    let mut out = List::new(alloc);
-    out.push(Branch::Fails { kind })?;
-    Ok(out)
-}
-
-/// Branches whose environments are dropped.
-pub fn without_env(alloc: Global, bound: List<Bound>) -> Result<List<Branch>, AllocError>
-    ensures { IfOk result (λ bs. branches bs ≡ followed (bounds bound) (λ _. done)) }
-{
-    let mut out = List::new(alloc);
-    for branch in bound.into_vec() {
-        match branch {
-            Bound::Goes { state, env: _env } => out.push(Branch::Goes { state })?,
-            Bound::Fails { kind } => out.push(Branch::Fails { kind })?,
-        }
-    }
-    Ok(out)
-}
 
 /// Branches whose environments are those of the states from now on.
 fn with_env(alloc: Global, bound: List<Bound>) -> Result<List<Branch>, AllocError>
@@ -62,7 +39,6 @@ fn with_env(alloc: Global, bound: List<Bound>) -> Result<List<Branch>, AllocErro
 /// The procedure ends with a result: its `ensures` is consumed, and what is left is dropped.
 #[tactic(auto, using(crate::proofs::ContractLemmas::finished))]
 pub fn finish(alloc: Global, state: State, post: &Asrt, t: Lin) -> Result<List<Branch>, AllocError>
-    requires { IsTrue (is_supported post.now) }
     ensures { IfOk result (λ bs. branches bs ≡ calls.finish (asrt_of post.now) t state) }
 {
     let mut env = state.env().fork(alloc)?;
@@ -73,7 +49,6 @@ pub fn finish(alloc: Global, state: State, post: &Asrt, t: Lin) -> Result<List<B
 
 /// The closing brace: the procedure ends with the result 0.
 pub fn close(alloc: Global, state: State, post: &Asrt) -> Result<List<Branch>, AllocError>
-    requires { IsTrue (is_supported post.now) }
     ensures { IfOk result (λ bs. branches bs ≡ calls.finish (asrt_of post.now) nought state) }
 {
     let t = constant(alloc, 0)?;
@@ -88,7 +63,6 @@ pub fn return_with(
     post: &Asrt,
     e: &Expr,
 ) -> Result<List<Branch>, AllocError>
-    requires { IsTrue (is_supported post.now) }
     ensures { IfOk result (λ bs. branches bs ≡ return (asrt_of post.now) (expr_of e.now) state) }
 {
     match read(alloc, &state, e, state.env())? {
@@ -100,7 +74,6 @@ pub fn return_with(
 /// The invariant of a loop is given: it is consumed.
 #[tactic(auto, using(crate::proofs::ContractLemmas::inv_given))]
 pub fn give_inv(alloc: Global, state: State, inv: &Asrt) -> Result<List<Branch>, AllocError>
-    requires { IsTrue (is_supported inv.now) }
     ensures { IfOk result (λ bs. branches bs ≡ give_inv (asrt_of inv.now) state) }
 {
     let env = state.env().fork(alloc)?;
@@ -127,23 +100,9 @@ fn new_symbols(alloc: Global, state: State, params: u32) -> Result<Bound, AllocE
     Ok(Bound::Goes { state, env })
 }
 
-/// An environment with a zero for each slot that is not set yet.
-#[tactic(auto, using(crate::proofs::ContractLemmas::padded_more, crate::proofs::ContractLemmas::padded_full))]
-pub fn padded(alloc: Global, env: Env, slots: u32) -> Result<Env, AllocError>
-    ensures { IfOk result (λ all. all ≡ padded slots env) }
-{
-    let mut all = env;
-    'pad: while all.len() < slots as usize {
-        let zero = constant(alloc, 0)?;
-        all.push(alloc, zero)?;
-    }
-    Ok(all)
-}
-
 /// A procedure starts with new symbols for its parameters, and what its `requires` says.
 #[tactic(auto, using(crate::proofs::ContractLemmas::entered, crate::proofs::ContractLemmas::not_entered))]
 pub fn enter(alloc: Global, proc: &Proc) -> Result<List<Branch>, AllocError>
-    requires { IsTrue (is_supported proc.now.pre) }
     ensures { IfOk result (λ bs. branches bs ≡ enter (contract_of asrt_of proc.now) start) }
 {
     let state = State::new(alloc, Env::new(alloc))?;

@@ -1,5 +1,5 @@
 //! What holds at some round of a loop: its invariant, where the variables that its body sets have new symbols.
-ghost use Rattle.std.specs.Prelude.{◌≡◌, IfOk, IsTrue};
+ghost use Rattle.std.specs.Prelude.{◌≡◌, IfOk};
 ghost use Rattle.fsl_core.specs.logic.States.{followed};
 ghost use Rattle.fsl_core.specs.logic.Terms.{expr_of};
 ghost use Rattle.fsl_core.specs.logic.Deciding.{cond_of, assume_cond};
@@ -8,13 +8,12 @@ ghost use Rattle.fsl_core.specs.logic.Slots.{renew};
 ghost use Rattle.fsl_core.specs.logic.Paths.{round};
 ghost use Rattle.fsl_chunk.specs.Went as chunks;
 ghost use Rattle.fsl_asrt.specs.Branch.{branches, bounds, decided as decisions};
-ghost use Rattle.fsl_asrt.specs.Supported.{is_supported};
 ghost use Rattle.fsl_flow.specs.Looping.{decided_here, produced, body_round};
 ghost use Rattle.fsl_flow.specs.Sets.{stmts_set};
 
 use crate::continuation::Loop;
-use crate::contract::failing;
 use crate::sets::set_among;
+use fsl_access::failing;
 use fsl_asrt::{Bound, Branch, Decided, assume_cond, decide_cond, produce};
 use fsl_base::List;
 use fsl_chunk::{Env, Made, State, Went};
@@ -81,7 +80,6 @@ fn produced(
     x: &Loop<'_>,
     answer: bool,
 ) -> Result<List<Branch>, AllocError>
-    requires { IsTrue (is_supported x.now.inv.now) }
     ensures { IfOk result (λ bs. branches bs ≡ produced (asrt_of x.now.inv.now) answer (cond_of expr_of x.now.cond.now) state) }
 {
     let env = state.env().fork(alloc)?;
@@ -98,7 +96,6 @@ pub fn at_round(
     x: &Loop<'_>,
     answer: bool,
 ) -> Result<List<Branch>, AllocError>
-    requires { IsTrue (is_supported x.now.inv.now) }
     ensures { IfOk result (λ bs. branches bs ≡ round answer (cond_of expr_of x.now.cond.now) (asrt_of x.now.inv.now) x.now.declared (stmts_set x.now.body.now) state) }
 {
     match renew(alloc, state, x.declared, x.body)? {
@@ -111,7 +108,6 @@ pub fn at_round(
 /// What holds at some round in which the body runs, on a path of its own that owns nothing but the invariant.
 #[tactic(auto, using(crate::proofs::LoopingLemmas::body_so))]
 pub fn at_body(alloc: Global, state: &State, x: &Loop<'_>) -> Result<List<Branch>, AllocError>
-    requires { IsTrue (is_supported x.now.inv.now) }
     ensures { IfOk result (λ bs. branches bs ≡ body_round (cond_of expr_of x.now.cond.now) (asrt_of x.now.inv.now) x.now.declared (stmts_set x.now.body.now) state.now) }
 {
     let mut own = state.fork(alloc)?;

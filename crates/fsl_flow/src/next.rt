@@ -1,12 +1,10 @@
 //! One step of a path: what comes next, the first first.
 ghost use Rattle.std.specs.Prelude.{◌≡◌, map, IfOk, IsTrue};
-ghost use Rattle.std.specs.List.{list_all};
-ghost use Rattle.fsl_asrt.specs.Supported as assertions;
-ghost use Rattle.fsl_flow.specs.Supported.{is_supported_act, are_supported, is_supported_proc};
+ghost use Rattle.fsl_flow.specs.Supported.{is_supported_act, are_supported};
 ghost use Rattle.fsl_flow.specs.Continuation.{leaving_of, continuation_of};
 ghost use Rattle.fsl_flow.specs.Pending.{item_of, goes_on};
 ghost use Rattle.fsl_flow.specs.Next.{next, next_exit, next_turn, next_block, next_stmt};
-ghost use Rattle.fsl_flow.specs.Paths.{is_supported_leaving, is_supported_continuation};
+ghost use Rattle.fsl_flow.specs.Paths.{is_supported_continuation};
 
 use crate::calls::call;
 use crate::continuation::{Continuation, Exit, Frame, Loop};
@@ -17,6 +15,7 @@ use crate::par::par;
 use crate::pending::{Pending, each, each_end, each_side, one};
 use crate::sets::past;
 use crate::statements::{is_simple, step};
+use fsl_access::{alloc_at, fence, load, store};
 use fsl_base::List;
 use fsl_chunk::State;
 use fsl_core::{Act, Stmt};
@@ -30,9 +29,7 @@ pub fn next<'a>(
     state: State,
     continuation: Continuation<'a>,
 ) -> Result<List<Pending<'a>>, AllocError>
-    requires post { IsTrue (assertions.is_supported job.now.proc.now.post) }
-    requires procs { IsTrue (list_all is_supported_proc job.now.program.now.procs) }
-    requires continuation { IsTrue (is_supported_continuation (continuation_of continuation)) }
+    requires { IsTrue (is_supported_continuation (continuation_of continuation)) }
     ensures { IfOk result (λ ps. map item_of ps ≡ next job.now (goes_on state (continuation_of continuation.entry))) }
 {
     let Continuation { mut frames, exit } = continuation;
@@ -64,8 +61,6 @@ fn leave<'a>(
     state: State,
     exit: &Exit<'_>,
 ) -> Result<List<Pending<'a>>, AllocError>
-    requires post { IsTrue (assertions.is_supported job.now.proc.now.post) }
-    requires exit { IsTrue (is_supported_leaving (leaving_of exit.now)) }
     ensures { IfOk result (λ ps. map item_of ps ≡ next_exit job.now state (leaving_of exit.now)) }
 {
     match exit {
@@ -87,7 +82,6 @@ fn turn<'a>(
     x: &Loop<'a>,
     up: &Continuation<'a>,
 ) -> Result<List<Pending<'a>>, AllocError>
-    requires { IsTrue (assertions.is_supported x.now.inv.now) }
     ensures { IfOk result (λ ps. map item_of ps ≡ next_turn x.now.at x.now.cond.now x.now.inv.now x.now.body.now x.now.declared state (continuation_of up.now)) }
 {
     let inside = at_body(alloc, &state, x)?;
@@ -111,9 +105,7 @@ fn block<'a>(
     declared: u64,
     up: Continuation<'a>,
 ) -> Result<List<Pending<'a>>, AllocError>
-    requires post { IsTrue (assertions.is_supported job.now.proc.now.post) }
-    requires procs { IsTrue (list_all is_supported_proc job.now.program.now.procs) }
-    requires stmts { IsTrue (are_supported stmts.now) }
+    requires { IsTrue (are_supported stmts.now) }
     ensures { IfOk result (λ ps. map item_of ps ≡ next_block job.now state stmts.now declared (continuation_of up.entry)) }
 {
     match stmts.split_first() {
@@ -144,9 +136,7 @@ fn statement<'a>(
     declared: u64,
     continuation: Continuation<'a>,
 ) -> Result<List<Pending<'a>>, AllocError>
-    requires post { IsTrue (assertions.is_supported job.now.proc.now.post) }
-    requires procs { IsTrue (list_all is_supported_proc job.now.program.now.procs) }
-    requires supported { IsTrue (is_supported_act stmt.now.act) }
+    requires { IsTrue (is_supported_act stmt.now.act) }
     ensures { IfOk result (λ ps. map item_of ps ≡ next_stmt job.now stmt.now declared state (continuation_of continuation.entry)) }
 {
     if is_simple(&stmt.act) {
@@ -154,6 +144,22 @@ fn statement<'a>(
         return one(alloc, stmt.span, went, continuation);
     }
     match &stmt.act {
+        Act::AllocAt { slot, rmw, inst } => {
+            let went = alloc_at(alloc, job.program, state, *slot, *rmw, inst)?;
+            one(alloc, stmt.span, went, continuation)
+        }
+        Act::Load { slot, mode, at } => {
+            let read = load(alloc, job.program, state, *slot, *mode, at)?;
+            each(alloc, stmt.span, read, &continuation)
+        }
+        Act::Store { mode, at, e } => {
+            let written = store(alloc, job.program, state, *mode, at, e)?;
+            each(alloc, stmt.span, written, &continuation)
+        }
+        Act::Fence { mode, asrt } => {
+            let behind = fence(alloc, state, *mode, asrt)?;
+            each(alloc, stmt.span, behind, &continuation)
+        }
         Act::Call { slot, proc, args } => {
             let called = call(alloc, job.program, state, *slot, *proc, args.as_slice())?;
             each(alloc, stmt.span, called, &continuation)

@@ -1,5 +1,5 @@
 //! The rules of threads that run side by side.
-ghost use Rattle.std.specs.Prelude.{◌≡◌, [], ◌++◌, map, slice_get, IfOk, IsTrue};
+ghost use Rattle.std.specs.Prelude.{◌≡◌, [], ◌++◌, map, slice_get, IfOk};
 ghost use Rattle.std.specs.List.{list_all};
 ghost use Rattle.std.specs.Option.{option_map};
 ghost use Rattle.fsl_core.specs.declared.verdict.Kind.TheVariants as kind;
@@ -10,12 +10,11 @@ ghost use Rattle.fsl_core.specs.logic.Locations.{setting_of};
 ghost use Rattle.fsl_core.specs.logic.Calls as rules;
 ghost use Rattle.fsl_core.specs.logic.Calls.{call_of};
 ghost use Rattle.fsl_asrt.specs.Branch.{branches, bounds};
-ghost use Rattle.fsl_flow.specs.Supported.{is_supported_proc};
 ghost use Rattle.fsl_flow.specs.Calls.{started_with, start_one, join_one, running_of, starts};
 
-use crate::calls::{arguments, gain_post, going, procedure};
-use crate::contract::{failing, padded};
+use crate::calls::{arguments, gain_post, procedure};
 use crate::running::{Running, Started};
+use fsl_access::{failing, going, padded};
 use fsl_asrt::{Bound, Branch, consume};
 use fsl_base::List;
 use fsl_chunk::{Env, Made, State};
@@ -30,7 +29,6 @@ pub fn par(
     state: State,
     calls: &[Called],
 ) -> Result<List<Branch>, AllocError>
-    requires { IsTrue (list_all is_supported_proc p.now.procs) }
     ensures { IfOk result (λ bs. branches bs ≡ rules.par (setting_of asrt_of p.now) (map (call_of expr_of) calls.now) state) }
 {
     match with_args(alloc, p, &state, calls)? {
@@ -50,7 +48,6 @@ fn with_args<'a>(
     state: &State,
     calls: &[Called],
 ) -> Result<Option<List<Running<'a>>>, AllocError>
-    requires { IsTrue (list_all is_supported_proc p.now.procs) }
     ensures { IfOk result (λ xs. demand_some kind.Term (option_map (map running_of) xs) state.now ≡ rules.with_args (setting_of asrt_of p.now) (map (call_of expr_of) calls.now) state.now.env state.now) }
 {
     let mut out = List::new(alloc);
@@ -71,7 +68,6 @@ fn add_running<'a>(
     args: Env,
     before: List<Running<'a>>,
 ) -> Result<List<Running<'a>>, AllocError>
-    requires { IsTrue (list_all is_supported_proc p.now.procs) }
     ensures { IfOk result (λ xs. map running_of xs ≡ map running_of before.entry ++ rules.running (slice_get (setting_of asrt_of p.now).procs number) args []) }
 {
     let mut out = before;
@@ -124,7 +120,6 @@ fn start_on_each<'a>(
 }
 
 /// The `requires` of a procedure is consumed behind others.
-#[tactic(auto, using(crate::proofs::SupportedLemmas::pre_supported))]
 fn start_one<'a>(
     alloc: Global,
     state: State,

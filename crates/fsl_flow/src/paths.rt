@@ -5,7 +5,6 @@ ghost use Rattle.std.specs.List.{flat_map, list_all};
 ghost use Rattle.std.specs.Option.{option_map};
 ghost use Rattle.fsl_core.specs.Verdicts.{outcome_from};
 ghost use Rattle.fsl_core.specs.logic.Verdicts.{outcome_of};
-ghost use Rattle.fsl_asrt.specs.Supported as assertions;
 ghost use Rattle.fsl_flow.specs.Supported.{is_supported, is_supported_proc};
 ghost use Rattle.fsl_flow.specs.Pending.{item_of, stack};
 ghost use Rattle.fsl_flow.specs.Paths.{item_ends, is_supported_item};
@@ -27,7 +26,7 @@ const NOWHERE: Span = Span { from: 0, to: 0 };
 
 /// The outcome of a procedure, by its number: its first failure, else how many paths it has. The 65537th path that
 /// ends fails `Paths` unless it fails by itself.
-#[tactic(auto, using(crate::proofs::SupportedLemmas::proc_supported, crate::proofs::SupportedLemmas::procs_supported))]
+#[tactic(auto, using(crate::proofs::SupportedLemmas::proc_supported))]
 pub fn outcome(alloc: Global, p: &Program, proc: u32) -> Result<Outcome, AllocError>
     requires supported { IsTrue (is_supported p.now) }
     requires in_range { proc < length p.now.procs }
@@ -43,8 +42,7 @@ pub fn outcome(alloc: Global, p: &Program, proc: u32) -> Result<Outcome, AllocEr
 
 /// The outcome of a procedure.
 fn judge(alloc: Global, job: &Job<'_>) -> Result<Outcome, AllocError>
-    requires proc { IsTrue (is_supported_proc job.now.proc.now) }
-    requires procs { IsTrue (list_all is_supported_proc job.now.program.now.procs) }
+    requires { IsTrue (is_supported_proc job.now.proc.now) }
     ensures { IfOk result (λ o. o ≡ outcome_of job.now.program.now job.now.number job.now.proc.now) }
 {
     let branches = enter(alloc, job.proc)?;
@@ -56,9 +54,7 @@ fn judge(alloc: Global, job: &Job<'_>) -> Result<Outcome, AllocError>
 
 /// Follows what waits, one after the other.
 fn walk(alloc: Global, job: &Job<'_>, first: List<Pending<'_>>) -> Result<Outcome, AllocError>
-    requires post { IsTrue (assertions.is_supported job.now.proc.now.post) }
-    requires procs { IsTrue (list_all is_supported_proc job.now.program.now.procs) }
-    requires supported { IsTrue (list_all is_supported_item (map item_of first)) }
+    requires { IsTrue (list_all is_supported_item (map item_of first)) }
     ensures { IfOk result (λ o. o ≡ outcome_from job.now.number 0 (flat_map (item_ends job.now) (map item_of first.entry))) }
 {
     let mut pending = List::new(alloc);

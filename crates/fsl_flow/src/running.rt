@@ -1,7 +1,4 @@
 //! Procedures that are about to run side by side, and branches that carry them.
-ghost use Rattle.std.specs.Prelude.{IsTrue};
-ghost use Rattle.fsl_flow.specs.Supported.{is_supported_proc};
-
 use fsl_base::List;
 use fsl_chunk::{Env, State};
 use fsl_core::{Kind, Proc};
@@ -11,7 +8,6 @@ use fsl_core::{Kind, Proc};
 pub struct Running<'a> {
     pub proc: &'a Proc,
     pub env: Env,
-    pub ghost supported: { IsTrue (is_supported_proc proc.now) },
 }
 
 /// A branch, with the procedures whose `requires` it has given.

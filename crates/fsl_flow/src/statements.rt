@@ -2,15 +2,15 @@
 ghost use Rattle.std.specs.Prelude.{◌≡◌, IfOk, IsTrue};
 ghost use Rattle.fsl_core.specs.logic.Terms.{expr_of};
 ghost use Rattle.fsl_core.specs.logic.Deciding.{cond_of};
-ghost use Rattle.fsl_core.specs.logic.Accesses.{alloc_na, load_na, store_na};
+ghost use Rattle.fsl_core.specs.logic.Accesses.{alloc_na, free};
 ghost use Rattle.fsl_core.specs.logic.Paths.{set_to, assert, print};
 ghost use Rattle.fsl_chunk.specs.Went.{branches};
 ghost use Rattle.fsl_flow.specs.Statements.{is_simple, action_of};
 
-use fsl_access::{alloc_na, load_na, store_na};
+use fsl_access::{alloc_na, free};
 use fsl_asrt::{demand_cond, read};
 use fsl_chunk::{State, Went};
-use fsl_core::{Act, Cond, Expr, Kind, Mode};
+use fsl_core::{Act, Cond, Expr, Kind};
 use std::alloc::{AllocError, Global};
 
 /// Whether an act has one rule, and neither branches nor ends the path.
@@ -20,8 +20,7 @@ pub fn is_simple(act: &Act) -> bool
     match act {
         Act::Set { .. } => true,
         Act::AllocNa { .. } => true,
-        Act::Load { mode: Mode::Na, .. } => true,
-        Act::Store { mode: Mode::Na, .. } => true,
+        Act::Free { .. } => true,
         Act::Assert { .. } => true,
         Act::Print { .. } => true,
         _ => false,
@@ -71,16 +70,7 @@ pub fn step(alloc: Global, state: State, act: &Act) -> Result<Went, AllocError>
     match act {
         Act::Set { slot, e } => set_to(alloc, state, *slot, e),
         Act::AllocNa { slot } => alloc_na(alloc, state, *slot),
-        Act::Load {
-            slot,
-            mode: Mode::Na,
-            at,
-        } => load_na(alloc, state, *slot, at),
-        Act::Store {
-            mode: Mode::Na,
-            at,
-            e,
-        } => store_na(alloc, state, at, e),
+        Act::Free { at } => free(alloc, state, at),
         Act::Assert { cond } => assert(alloc, state, cond),
         Act::Print { e } => print(alloc, state, e),
         _ => unreachable!(),

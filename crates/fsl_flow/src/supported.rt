@@ -3,7 +3,7 @@ ghost use Rattle.std.specs.Prelude.{◌≡◌};
 ghost use Rattle.std.specs.List.{list_all};
 ghost use Rattle.fsl_flow.specs.Supported.{is_supported_act, are_supported, is_supported_proc, is_supported};
 
-use fsl_core::{Act, Mode, Proc, Program, Stmt};
+use fsl_core::{Act, Proc, Program, Stmt};
 
 /// Whether an act is followed so far, with the statements inside it.
 #[cycle(supported)]
@@ -11,19 +11,14 @@ fn is_supported_act(act: &Act) -> bool
     ensures { result ≡ is_supported_act act.now }
 {
     match act {
-        Act::Set { .. } => true,
-        Act::AllocNa { .. } => true,
-        Act::Load { mode: Mode::Na, .. } => true,
-        Act::Store { mode: Mode::Na, .. } => true,
-        Act::Call { .. } => true,
-        Act::Par { .. } => true,
+        Act::Cas { .. } => false,
+        Act::Add { .. } => false,
+        Act::Swap { .. } => false,
+        Act::Bank { .. } => false,
+        Act::Step { .. } => false,
         Act::If { yes, no, .. } => are_supported(yes.as_slice()) && are_supported(no.as_slice()),
-        Act::While { inv, body, .. } => fsl_asrt::is_supported(inv)
-            && are_supported(body.as_slice()),
-        Act::Assert { .. } => true,
-        Act::Print { .. } => true,
-        Act::Return { .. } => true,
-        _ => false,
+        Act::While { body, .. } => are_supported(body.as_slice()),
+        _ => true,
     }
 }
 
@@ -44,26 +39,17 @@ fn are_supported(stmts: &[Stmt]) -> bool
 fn is_supported_proc(proc: &Proc) -> bool
     ensures { result ≡ is_supported_proc proc.now }
 {
-    fsl_asrt::is_supported(&proc.pre)
-        && fsl_asrt::is_supported(&proc.post)
-        && are_supported(proc.body.as_slice())
-}
-
-/// Whether each procedure is followed so far.
-fn are_supported_procs(procs: &[Proc]) -> bool
-    ensures { result ≡ list_all is_supported_proc procs.now }
-{
-    for proc in procs {
-        if !is_supported_proc(proc) {
-            return false;
-        }
-    }
-    true
+    are_supported(proc.body.as_slice())
 }
 
 /// Whether the paths of a program are followed so far. It takes no memory.
 pub fn is_supported(p: &Program) -> bool
     ensures { result ≡ is_supported p.now }
 {
-    p.invs().is_empty() && are_supported_procs(p.procs())
+    for proc in p.procs() {
+        if !is_supported_proc(proc) {
+            return false;
+        }
+    }
+    true
 }

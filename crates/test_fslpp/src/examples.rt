@@ -2,7 +2,7 @@
 //! this file.
 use crate::refusals::is_answered;
 
-const EXAMPLES: [(&str, &str); 30] = [
+const EXAMPLES: [(&str, &str); 37] = [
     (
         "// expect: failed raise 7:3 share
 // shows: a cell is written with one share of it; another thread may be reading it
@@ -169,6 +169,44 @@ proc main() {
     ),
     (
         "// expect: accepted 2
+// shows: a cell is given back by the one that owns all of it
+proc empty(cell)
+  requires (cell |-> ?held)
+  ensures (result == held) {
+  let last = load na(cell);
+  free(cell);
+  return last;
+}
+proc main() {
+  let cell = alloc na;
+  store na(cell, 4);
+  let last = call empty(cell);
+  assert (last == 4);
+}
+",
+        "accepted 2\n",
+    ),
+    (
+        "// expect: failed empty 7:3 points
+// shows: a cell that was given back isn't owned any more
+proc empty(cell)
+  requires (cell |-> ?held)
+  ensures (result == held) {
+  free(cell);
+  let last = load na(cell);
+  return last;
+}
+proc main() {
+  let cell = alloc na;
+  store na(cell, 4);
+  let last = call empty(cell);
+  assert (last == 4);
+}
+",
+        "failed empty 7:3 points\n",
+    ),
+    (
+        "// expect: accepted 2
 // shows: the value is computed on first use; until then a choice in the contract leaves the cell without a value
 proc value_of(ready, value, seed)
   requires (ready |-> ?was &*& if (was == 0) { value |-> _ } else { value |-> 2 * seed + 1 })
@@ -279,6 +317,117 @@ proc main() { }
         "failed transfer 10:1 post\n",
     ),
     (
+        "// expect: accepted 3
+// shows: a price is published by a release store, and belongs to the one whose acquire load sees it
+inv Posted(price) of step { if (step == 0) { emp } else { price |-> 250 } }
+proc post(board, price)
+  requires (Rel(board, Posted(price)) &*& price |-> _) {
+  store na(price, 250);
+  store rel(board, 1);
+}
+proc shop(board, price)
+  requires (Init(board) &*& Acq(board, Posted(price), 0, {})) {
+  let step = load acq(board);
+  if (step != 0) {
+    let asked = load na(price);
+    assert (asked == 250);
+    store na(price, 0);
+  }
+}
+proc main() {
+  let price = alloc na;
+  let board = alloc acq Posted(price);
+  store rel(board, 0);
+  par { post(board, price); shop(board, price); }
+}
+",
+        "accepted 3\n",
+    ),
+    (
+        "// expect: accepted 3
+// shows: the same by fences: one sets the price apart for a relaxed store, the other gives what a relaxed load saw
+inv Posted(price) of step { if (step == 0) { emp } else { price |-> 250 } }
+proc post(board, price)
+  requires (Rel(board, Posted(price)) &*& price |-> _) {
+  store na(price, 250);
+  fence rel (price |-> 250);
+  store rlx(board, 1);
+}
+proc shop(board, price)
+  requires (Init(board) &*& Acq(board, Posted(price), 0, {})) {
+  let step = load rlx(board);
+  if (step != 0) {
+    fence acq;
+    let asked = load na(price);
+    assert (asked == 250);
+    store na(price, 0);
+  }
+}
+proc main() {
+  let price = alloc na;
+  let board = alloc acq Posted(price);
+  store rel(board, 0);
+  par { post(board, price); shop(board, price); }
+}
+",
+        "accepted 3\n",
+    ),
+    (
+        "// expect: failed post 6:3 uninit
+// shows: the price is written behind the release store, so that there is nothing to give away yet
+inv Posted(price) of step { if (step == 0) { emp } else { price |-> 250 } }
+proc post(board, price)
+  requires (Rel(board, Posted(price)) &*& price |-> _) {
+  store rel(board, 1);
+  store na(price, 250);
+}
+proc shop(board, price)
+  requires (Init(board) &*& Acq(board, Posted(price), 0, {})) {
+  let step = load acq(board);
+  if (step != 0) {
+    let asked = load na(price);
+    assert (asked == 250);
+    store na(price, 0);
+  }
+}
+proc main() {
+  let price = alloc na;
+  let board = alloc acq Posted(price);
+  store rel(board, 0);
+  par { post(board, price); shop(board, price); }
+}
+",
+        "failed post 6:3 uninit\n",
+    ),
+    (
+        "// expect: failed post 7:3 points
+// shows: a relaxed store gives nothing away that no release fence has set apart
+inv Posted(price) of step { if (step == 0) { emp } else { price |-> 250 } }
+proc post(board, price)
+  requires (Rel(board, Posted(price)) &*& price |-> _) {
+  store na(price, 250);
+  store rlx(board, 1);
+}
+proc shop(board, price)
+  requires (Init(board) &*& Acq(board, Posted(price), 0, {})) {
+  let step = load rlx(board);
+  if (step != 0) {
+    fence acq;
+    let asked = load na(price);
+    assert (asked == 250);
+    store na(price, 0);
+  }
+}
+proc main() {
+  let price = alloc na;
+  let board = alloc acq Posted(price);
+  store rel(board, 0);
+  par { post(board, price); shop(board, price); }
+}
+",
+        "failed post 7:3 points\n",
+    ),
+    (
         "// expect: accepted 2
 // shows: a binder in an invariant names a value that no variable holds, and the sum of two cells stays the same
 proc pour(source, target)
@@ -320,6 +469,34 @@ proc take_back(cell)
 proc main() { }
 ",
         "accepted 4\n",
+    ),
+    (
+        "// expect: failed shop 14:5 points
+// shows: what a relaxed load saw isn't owned before an acquire fence
+inv Posted(price) of step { if (step == 0) { emp } else { price |-> 250 } }
+proc post(board, price)
+  requires (Rel(board, Posted(price)) &*& price |-> _) {
+  store na(price, 250);
+  fence rel (price |-> 250);
+  store rlx(board, 1);
+}
+proc shop(board, price)
+  requires (Init(board) &*& Acq(board, Posted(price), 0, {})) {
+  let step = load rlx(board);
+  if (step != 0) {
+    let asked = load na(price);
+    assert (asked == 250);
+    store na(price, 0);
+  }
+}
+proc main() {
+  let price = alloc na;
+  let board = alloc acq Posted(price);
+  store rel(board, 0);
+  par { post(board, price); shop(board, price); }
+}
+",
+        "failed shop 14:5 points\n",
     ),
     (
         "// expect: accepted 1

@@ -1,5 +1,4 @@
-//! Uses, counts and limits: programs at each limit and one past it. The programs whose answer is `refused form` are
-//! programs, but none that `check` covers.
+//! Uses, counts and limits: programs at each limit and one past it.
 use crate::refusals::is_answered;
 use std::alloc::{AllocError, Global};
 
@@ -43,7 +42,7 @@ const USES: [(&str, &str); 20] = [
     ),
     (
         "proc main() { while (true) inv (up(emp)) { } }",
-        "refused form\n",
+        "accepted 1\n",
     ),
     (
         "proc f() ensures (if (true) { emp } else { down(emp) }) { } proc main() { par { f(); f(); } }",
@@ -55,11 +54,11 @@ const USES: [(&str, &str); 20] = [
     ),
     (
         "proc f() ensures (up(emp)) { } proc main() { call f(); }",
-        "refused form\n",
+        "accepted 2\n",
     ),
     (
         "inv I() of v { emp } { emp } { emp } { emp } { emp } { emp } { emp } { emp } proc main() { }",
-        "refused form\n",
+        "accepted 1\n",
     ),
     (
         "inv I() of v { emp } { emp } { emp } { emp } { emp } { emp } { emp } { emp } { emp } proc main() { }",
@@ -67,7 +66,7 @@ const USES: [(&str, &str); 20] = [
     ),
     (
         "inv I() of v { emp } { emp } proc f(x) requires (Acq(x, I(), 1, {})) { } proc main() { }",
-        "refused form\n",
+        "accepted 2\n",
     ),
     (
         "inv I() of v { emp } { emp } proc f(x) requires (Acq(x, I(), 2, {})) { } proc main() { }",
@@ -103,7 +102,7 @@ const COUNTS: [(&str, &str); 22] = [
     ),
     (
         "inv I() of v { emp } proc f(x) requires (Acq(x, I(), 0, {0, 0, 0, 0, 0, 0, 0, 0, 0, 0, 0, 0, 0, 0, 0, 0})) { } proc main() { }",
-        "refused form\n",
+        "accepted 2\n",
     ),
     (
         "inv I() of v { emp } proc f(x) requires (Acq(x, I(), 0, {0, 0, 0, 0, 0, 0, 0, 0, 0, 0, 0, 0, 0, 0, 0, 0, 0})) { } proc main() { }",
@@ -155,7 +154,7 @@ const COUNTS: [(&str, &str); 22] = [
     ),
     (
         "proc main() { let a = alloc na; free(a); }",
-        "refused form\n",
+        "accepted 1\n",
     ),
     (
         "proc main() { let i = 0; while (i < 3) inv (i <= 3) { i = i + 1; } }",
@@ -192,7 +191,7 @@ const LIMITS: [(&str, &str, &str, u32, &str, &str); 16] = [
         "() of v { emp }\n",
         4095,
         "inv last() of v { emp } proc main() { }",
-        "refused form\n",
+        "accepted 1\n",
     ),
     (
         "",
@@ -224,7 +223,7 @@ const LIMITS: [(&str, &str, &str, u32, &str, &str); 16] = [
         ", ",
         15,
         "last) of v { emp } proc main() { }",
-        "refused form\n",
+        "accepted 1\n",
     ),
     (
         "inv f(",
@@ -256,7 +255,7 @@ const LIMITS: [(&str, &str, &str, u32, &str, &str); 16] = [
         " &*& ",
         253,
         "p |-> ?last } proc main() { }",
-        "refused form\n",
+        "accepted 1\n",
     ),
     (
         "inv f(p) of v { ",
@@ -272,7 +271,7 @@ const LIMITS: [(&str, &str, &str, u32, &str, &str); 16] = [
         "+ 0, ",
         15,
         "777})) { } proc main() { }",
-        "refused form\n",
+        "accepted 2\n",
     ),
     (
         "inv i() of v { emp } proc f(x) requires (Acq(x, i(), 0, {",
@@ -288,7 +287,7 @@ const LIMITS: [(&str, &str, &str, u32, &str, &str); 16] = [
         " } ",
         7,
         "{ 777 == v } proc main() { }",
-        "refused form\n",
+        "accepted 1\n",
     ),
     (
         "inv i() of v ",

@@ -86,7 +86,7 @@ const NAMES: [(&str, &str); 27] = [
     ),
     (
         "inv f() of v { emp } proc f() { } proc main() { }",
-        "refused form\n",
+        "accepted 2\n",
     ),
     (
         "proc f(a, a) { } proc main() { }",
@@ -164,8 +164,14 @@ const SORTS: [(&str, &str); 46] = [
         "proc main() { let x = load na(1); }",
         "failed main 1:15 points\n",
     ),
-    ("proc main() { let x = load rlx(1); }", "refused form\n"),
-    ("proc main() { let x = load acq(1); }", "refused form\n"),
+    (
+        "proc main() { let x = load rlx(1); }",
+        "failed main 1:15 init\n",
+    ),
+    (
+        "proc main() { let x = load acq(1); }",
+        "failed main 1:15 init\n",
+    ),
     (
         "proc main() { let x = load rel(1); }",
         "refused type 1:28 type\n",
@@ -202,7 +208,10 @@ const SORTS: [(&str, &str); 46] = [
         "proc main() { let x = cas rel na(1, 1, 2); }",
         "refused type 1:31 type\n",
     ),
-    ("proc main() { store rlx(1, 1); }", "refused form\n"),
+    (
+        "proc main() { store rlx(1, 1); }",
+        "failed main 1:15 rel\n",
+    ),
     (
         "proc main() { let x = cas rel rlx(1, 1, 2); }",
         "refused form\n",
@@ -215,7 +224,10 @@ const SORTS: [(&str, &str); 46] = [
         "proc main() { let x = cas rel acq(1, 1, 2); }",
         "refused form\n",
     ),
-    ("proc main() { store rel(1, 1); }", "refused form\n"),
+    (
+        "proc main() { store rel(1, 1); }",
+        "failed main 1:15 rel\n",
+    ),
     (
         "proc main() { let x = cas rel rel(1, 1, 2); }",
         "refused type 1:31 type\n",

@@ -1,11 +1,9 @@
 //! What assertions give and take: a `requires` produced, and an `ensures` consumed behind it.
-ghost use Rattle.std.specs.Prelude.{IsTrue};
-ghost use Rattle.fsl_asrt.specs.Supported.{is_supported};
 
 use crate::reading::program;
-use crate::starting::{failing, no_program, not_supported, produced};
+use crate::starting::{failing, no_program, produced};
 use crate::writing::branches_text;
-use fsl_asrt::{Bound, consume, is_supported};
+use fsl_asrt::{Bound, consume};
 use fsl_base::{List, Text};
 use fsl_core::{Asrt, Mood, Proc, Rung};
 use std::alloc::{AllocError, Global};
@@ -135,7 +133,6 @@ fn consumed(
     rung: Rung,
     mood: Mood,
 ) -> Result<List<Bound>, AllocError>
-    requires { IsTrue (is_supported a.now) }
 {
     let mut out = List::new(alloc);
     for branch in branches.into_vec() {
@@ -165,9 +162,6 @@ const OWN: Way = Way {
 
 /// The branches on which the `requires` of a procedure is produced and its `ensures` consumed.
 fn passed(alloc: Global, proc: &Proc, way: Way) -> Result<Text, AllocError> {
-    if !is_supported(&proc.pre) || !is_supported(&proc.post) {
-        return not_supported(alloc);
-    }
     let branches = produced(alloc, proc, way.from)?;
     let branches = consumed(alloc, branches, &proc.post, way.to, way.mood)?;
     branches_text(alloc, &branches)

@@ -9,6 +9,8 @@ mod asking;
 #[cfg(test)]
 mod asserting;
 #[cfg(test)]
+mod atomics;
+#[cfg(test)]
 mod changing;
 #[cfg(test)]
 mod outcomes;

@@ -19,7 +19,6 @@ const OUTCOMES: &[&str] = &[
     "{\nassert (a < b);\n} => fails 2:1 Assert",
     "{\nprint(a * b);\n} => fails 2:1 Term",
     "{\nlet x = alloc na;\nassert (x >= 1);\nlet y = alloc na;\nassert (x != y);\n} => fails 5:1 Assert",
-    "{\nfree(a);\n} => not supported",
     "requires (a |->[4] _) ensures (a |->[5] _) {\n} => fails 2:1 Share",
     "requires (a |-> 1) ensures (a |-> 2) {\n} => fails 2:1 Value",
     "requires (a |-> ?c) ensures (a |-> c + 1) {\nlet x = load na(a);\nstore na(a, x + 1);\n} => derived 1",
@@ -102,20 +101,25 @@ fn judged(alloc: Global, text: &str, p: &Program) -> Result<Text, AllocError> {
     }
 }
 
-/// The outcome of a procedure.
-fn answer(alloc: Global, procedure: &str) -> Result<Text, AllocError> {
-    let text = format!(in alloc; "proc f(a, b) {procedure}\nproc main() {{ }}")?;
+/// The outcome of a procedure behind invariants.
+fn answer(alloc: Global, invs: &str, procedure: &str) -> Result<Text, AllocError> {
+    let text = format!(in alloc; "{invs}proc f(a, b) {procedure}\nproc main() {{ }}")?;
     match program(alloc, text.as_str()) {
         Some(p) => judged(alloc, text.as_str(), &p),
         None => no_program(alloc),
     }
 }
 
-/// Whether each procedure has the outcome that its row says.
-fn are_judged(rt: &impl Abort, alloc: Global, rows: &[&str]) -> Result<(), Fail> {
+/// Whether each procedure has the outcome that its row says, behind invariants on the first line.
+pub fn are_judged_under(
+    rt: &impl Abort,
+    alloc: Global,
+    invs: &str,
+    rows: &[&str],
+) -> Result<(), Fail> {
     for row in rows {
         let (procedure, wanted) = row.split_once(" => ").ok_or("no row")?;
-        let got = answer(alloc, procedure)?;
+        let got = answer(alloc, invs, procedure)?;
         assert_eq!(rt; got.as_str(), wanted, "{row}");
     }
     Ok(())
@@ -123,5 +127,5 @@ fn are_judged(rt: &impl Abort, alloc: Global, rows: &[&str]) -> Result<(), Fail>
 
 #[test]
 fn a_procedure_has_an_outcome(rt: HostRuntime) -> Result<(), Fail> {
-    are_judged(&rt, rt.alloc(), OUTCOMES)
+    are_judged_under(&rt, rt.alloc(), "", OUTCOMES)
 }

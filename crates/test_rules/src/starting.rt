@@ -1,8 +1,6 @@
 //! Where a row starts: the states in which the `requires` of its procedure holds.
-ghost use Rattle.std.specs.Prelude.{IsTrue};
-ghost use Rattle.fsl_asrt.specs.Supported.{is_supported};
 
-use fsl_asrt::{Bound, constant, is_supported, produce};
+use fsl_asrt::{Bound, constant, produce};
 use fsl_base::{List, Text};
 use fsl_chunk::{Env, Made, State};
 use fsl_core::{Kind, Proc, Rung};
@@ -46,7 +44,6 @@ fn padded(alloc: Global, env: Env, proc: &Proc) -> Result<Env, AllocError> {
 
 /// The branches on which the `requires` of a procedure is produced at a rung.
 pub fn produced(alloc: Global, proc: &Proc, rung: Rung) -> Result<List<Bound>, AllocError>
-    requires { IsTrue (is_supported proc.now.pre) }
 {
     match parameters(alloc, proc)? {
         Bound::Goes { state, env } => {
@@ -59,9 +56,6 @@ pub fn produced(alloc: Global, proc: &Proc, rung: Rung) -> Result<List<Bound>, A
 
 /// The one state that a procedure starts in.
 pub fn only(alloc: Global, proc: &Proc) -> Result<Option<Bound>, AllocError> {
-    if !is_supported(&proc.pre) {
-        return Ok(None);
-    }
     let mut branches = produced(alloc, proc, Rung::Plain)?;
     if branches.len() == 1 {
         Ok(branches.pop())

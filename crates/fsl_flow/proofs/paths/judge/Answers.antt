@@ -6,11 +6,11 @@ use Rattle.fsl_flow.specs.Pending.{item_of}
 use Rattle.fsl_flow.proofs.PathsLemmas.{first_is, judged, judged_supported}
 use Rattle.fsl_flow.proofs.paths.judge.Goals as goal
 
-pub walk-requires-clause-supported : goal.walk-requires-clause-supported
-walk-requires-clause-supported c =
+pub walk-requires : goal.walk-requires
+walk-requires c =
     judged_supported c.args.job.now (map item_of c.in_ok-first.first) (branches c.in_ok-branches.branches)
     (first_is c.args.job.now (map item_of c.in_ok-first.first) (branches c.in_ok-branches.branches) (continuation_of c.in_ok-body.body) c.as_slice.result.now
-    c.in_ok-first.ensures c.in_ok-body.ensures c.as_slice.ensures) c.requires.proc
+    c.in_ok-first.ensures c.in_ok-body.ensures c.as_slice.ensures) c.requires
 
 pub returns : goal.returns
 returns c =

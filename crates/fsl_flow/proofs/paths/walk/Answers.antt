@@ -13,12 +13,12 @@ loop-top-init c =
     let is : stack c.lay.new.pending ≡ _ = laid_first _ _ c.lay.new.pending c.in_ok-lay.ensures c.new-pending.ensures in
     record {
       few = omega arith;
-      supported = ap (list_all is_supported_item) is ∙ c.requires.supported;
+      supported = ap (list_all is_supported_item) is ∙ c.requires;
       so_far = ap (λ (xs : List Item). outcome_from c.args.job.now.number 0 (flat_map (item_ends c.args.job.now) xs)) is;
     }
 
-pub next-requires-clause-continuation : goal.next-requires-clause-continuation
-next-requires-clause-continuation c =
+pub next-requires : goal.next-requires
+next-requires c =
     top_supported c.in-Goes.state (continuation_of c.in-Goes.continuation) (stack c.pop.new.self) (stack c.loop-top.pending)
     (popped c.loop-top.pending c.pop.new.self c.in-Some.top (goes_on c.in-Goes.state (continuation_of c.in-Goes.continuation)) c.in-Some.ensures (ap item_of c.in-Goes.is))
     c.loop-top.invariant.supported

@@ -1,7 +1,7 @@
 use Rattle.std.proofs.Common.{◌≡◌, ◌++◌}
 use Rattle.fsl_core.specs.logic.States.{followed, done}
 use Rattle.fsl_asrt.specs.Branch.{branches, bounds}
-use Rattle.fsl_flow.proofs.contract.without_env.Given as goal
+use Rattle.fsl_access.proofs.branches.without_env.Given as goal
 
 abbrev pub invariant-loop-branch : goal.invariant-loop-branch
 invariant-loop-branch l = record {

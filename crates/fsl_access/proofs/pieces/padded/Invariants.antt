@@ -1,6 +1,6 @@
 use Rattle.std.proofs.Common.{◌≡◌, ◌-◌, length}
 use Rattle.fsl_core.specs.logic.Locations.{padded}
-use Rattle.fsl_flow.proofs.contract.padded.Given as goal
+use Rattle.fsl_access.proofs.pieces.padded.Given as goal
 
 abbrev pub decreases-pad : goal.decreases-pad
 decreases-pad l = l.slots - length l.all
