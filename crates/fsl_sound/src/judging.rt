@@ -38,7 +38,7 @@ impl<'a> Work for Procedures<'a> {
 }
 
 /// The verdict on a program: the failure of its least procedure that fails, else their number. It is the same for
-/// every number of workers, from 1 to 64. Where it accepts a program with neither atomic locations nor banks, every
+/// every number of workers, from 1 to 64. Where it accepts a program, every
 /// consistent execution without a cycle is safe. The gate is called before each procedure that is judged; one behind
 /// another that failed may be left out.
 #[tactic(auto, using(crate::proofs::Judged::is_judged))]
