@@ -6,7 +6,7 @@ use Rattle.fsl_asrt.specs.Cells.{take_at}
 use Rattle.fsl_asrt.specs.Counts.{count_of, IsCounted, IsCountedBy, bounding, sole, authority_taken}
 use Rattle.fsl_asrt.proofs.Sought.{found_at, found_none}
 use Rattle.fsl_asrt.proofs.CountsLemmas.{finds, finds_none}
-use Rattle.fsl_asrt.proofs.Keeping.{AreKept, followed_same, goes_kept, kept_append, met_kept, at_most_kept}
+use Rattle.fsl_asrt.proofs.Keeping.{AreKept, followed_same, goes_kept, demand_kept, at_most_kept}
 use Rattle.fsl_asrt.proofs.Laws.{then_goes, then_infeasible, then_fails}
 use Rattle.fsl_chunk.specs.Fits.{number_of}
 use Rattle.fsl_chunk.specs.declared.kind.ChunkKind.TheVariants.{Auth}
@@ -101,9 +101,6 @@ consumed_by : (g n : Combination) (s : State) (f : Found Chunk Count) → first 
     → consume_authority g n s ≡ (demand_equal kind.Token f.is.n n >> take f) s
 consumed_by g n s f h = rw h (append-nil ((demand_equal kind.Token f.is.n n >> take f) s))
 
-demanded_kept : (k n : Combination) (s : State) → AreKept s (demand_equal kind.Token k n s)
-demanded_kept k n s = kept_append s _ [] (met_kept kind.Token (proves_equal s.facts k n) s) tt
-
 taken_same : (s t : State) (f : Found Chunk Count) (a : FoundCount) → IsCounted Auth s.chunks f a → t.chunks ≡ s.chunks → take_at a.number t ≡ take f t
 taken_same s t f a h e = ap (λ (cs : List Chunk). goes tt (record t { chunks = cs }) ∷ []) (rw e h.taken)
 
@@ -111,7 +108,7 @@ pub taken_authority : (g n : Combination) (s : State) (a : FoundCount) → IsCou
     → (demand_equal kind.Token a.n n >> take_at a.number) s ≡ consume_authority g n s
 taken_authority g n s a i =
     let f = finds Auth s.chunks (first (authority_of g s.facts) s.chunks) a i in
-    followed_same s (demand_equal kind.Token a.n n s) _ _ (demanded_kept a.n n s) (λ _ t e. taken_same s t f.found a f.same e)
+    followed_same s (demand_equal kind.Token a.n n s) _ _ (demand_kept kind.Token (proves_equal s.facts a.n n) s) (λ _ t e. taken_same s t f.found a f.same e)
     ∙ ap (λ (x : Count). (demand_equal kind.Token x.n n >> take f.found) s) f.same.is ∙ sym (consumed_by g n s f.found f.is)
 
 pub no_authority : (g n : Combination) (s : State) → IsCountedBy Auth s.chunks (first (authority_of g s.facts) s.chunks) None

@@ -1,10 +1,10 @@
 -- A count that was found among the chunks, by its number.
-use Rattle.std.proofs.Common.{◌≡◌, ℕ, Bool, true, false, List, [], ◌∷◌, ◌++◌, length, Option, Some, None, pos, slice_get, IfSome, refl, sym, ap, ◌∙◌, append-nil}
+use Rattle.std.proofs.Common.{◌≡◌, ℕ, Bool, true, false, List, [], ◌∷◌, ◌++◌, length, Option, Some, None, pos, slice_get, slice_set, IfSome, refl, sym, ap, ◌∙◌, append-nil}
 use Rattle.std.specs.Option.{option_map}
 use Rattle.fsl_asrt.specs.declared.counts.FoundCount.{FoundCount}
 use Rattle.fsl_asrt.specs.Cells.{put_at}
-use Rattle.fsl_asrt.specs.Counts.{count_of, counted_in, IsOf, IsCounted, IsCountedBy, allowed, joining, more_at, fewer_at, taken_at}
-use Rattle.fsl_asrt.proofs.Keeping.{AreKept, followed_same, kept_append, kept_from, followed_kept, fitting_kept, met_kept}
+use Rattle.fsl_asrt.specs.Counts.{count_of, counted_in, IsOf, IsCounted, IsCountedBy, allowed, joining, summed_to, more_at, fewer_at, taken_at}
+use Rattle.fsl_asrt.proofs.Keeping.{followed_same, demand_kept, fitting_kept}
 use Rattle.fsl_asrt.proofs.Laws.{followed_twice, followed_equal}
 use Rattle.fsl_chunk.specs.Kind.{kind_of, rung_of}
 use Rattle.fsl_chunk.specs.Fits.{found_number}
@@ -146,6 +146,14 @@ put_same : (s t : State) (f : Found Chunk Count) (c : FoundCount) (by : Chunk) �
     → t.chunks ≡ s.chunks → put_at c.number by t ≡ put f by t
 put_same s t f c by h e = ap (λ (cs : List Chunk). goes tt (record t { chunks = cs }) ∷ []) (rw e (h.put by))
 
+-- the sum in its place, and what it may be
+pub sum_put : (g sum : Combination) (c : FoundCount) (s t : State) (by : Chunk) → t ≡ record s { chunks = slice_set s.chunks c.number by }
+    → by ≡ chunk.Tok c.bank sum → allowed g sum t ≡ summed_to g c sum s
+sum_put g sum c s t by e h =
+    let put : State = record s { chunks = slice_set s.chunks c.number (chunk.Tok c.bank sum) } in
+    ap (λ (u : State). allowed g sum u) (e ∙ ap (λ (b : Chunk). record s { chunks = slice_set s.chunks c.number b }) h)
+    ∙ sym (append-nil (allowed g sum put))
+
 abbrev joined_by : (Chunk → Action) → Combination → Count → Combination → Action
 joined_by puts g x k = do
   sum ← fitting (plus x.n k)
@@ -176,10 +184,6 @@ rest_by puts x k = do
   r ← fitting (minus x.n k)
   puts (chunk.Tok x.bank r)
 
-demanded_kept : (k n : Combination) (s : State) → AreKept s (demand_at_most kind.Token k n s)
-demanded_kept k n s =
-    kept_append s _ [] (met_kept kind.Token (proves_at_most s.facts k (pos 0) n) s) tt
-
 consumed_by : (g k : Combination) (s : State) (f : Found Chunk Count) → first (tokens_of g s.facts) s.chunks ≡ Some f
     → proves_at_most s.facts nought (pos 0) k ≡ true → consume_tokens g k s ≡ rest_by (put f) f.is k s
 consumed_by g k s f h l = rw (l, h) (append-nil (rest_by (put f) f.is k s ++ []) ∙ append-nil (rest_by (put f) f.is k s))
@@ -197,7 +201,7 @@ consumed_count g k s c i l =
     let f = finds Tok s.chunks (first (tokens_of g s.facts) s.chunks) c i in
     let a : taken_at c k s ≡ rest_by (put f.found) (count_of c) k s =
     followed_same s (demand_at_most kind.Token k c.n s) (λ _. fewer_at c k) (λ _. fitting (minus c.n k) >>= (λ r. put f.found (chunk.Tok c.bank r)))
-    (demanded_kept k c.n s) (λ _ t e. rest_put s t f.found c k f.same e) in
+    (demand_kept kind.Token (proves_at_most s.facts k (pos 0) c.n) s) (λ _ t e. rest_put s t f.found c k f.same e) in
     a ∙ ap (λ (x : Count). rest_by (put f.found) x k s) f.same.is ∙ sym (consumed_by g k s f.found f.is l)
 
 pub too_few : (g k : Combination) (s : State) → IsCountedBy Tok s.chunks (first (tokens_of g s.facts) s.chunks) None

@@ -60,6 +60,10 @@ pub met_kept : (kind : Kind) (test : Bool) (s : State) → AreKept s (demand kin
 met_kept kind true s = (refl, tt)
 met_kept kind false s = tt
 
+-- a demand that looks first
+pub demand_kept : (kind : Kind) (test : Bool) (s : State) → AreKept s (demand kind test s ++ [])
+demand_kept kind test s = kept_append s (demand kind test s) [] (met_kept kind test s) tt
+
 pub fitting_kept : (t : Combination) (s : State) → AreKept s (fitting t s)
 fitting_kept t s = some_kept _ (narrow t) s
 

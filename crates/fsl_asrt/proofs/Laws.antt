@@ -1,11 +1,13 @@
 -- Laws of rules that are followed, of terms that they read first, and of lists of branches that grow. They are no file's
 -- of `src/` alone.
-use Rattle.std.proofs.Common.{◌≡◌, List, [], ◌∷◌, ◌++◌, map, Option, Some, None, refl, sym, ap, ◌∙◌, append_assoc, append-nil}
+use Rattle.std.proofs.Common.{◌≡◌, ℕ, List, [], ◌∷◌, ◌++◌, map, get_or, Option, Some, None, refl, sym, ap, ◌∙◌, append_assoc, append-nil}
 use Rattle.std.proofs.lemmas.List.{map-append}
 use Rattle.fsl_core.specs.declared.verdict.Kind.{Kind}
 use Rattle.fsl_core.specs.declared.verdict.Kind.TheVariants.{Term}
-use Rattle.fsl_core.specs.logic.States.{Env, State, goes, fails, Branches, Rule, followed, ◌>>=◌, give, demand_some, here}
+use Rattle.fsl_core.specs.logic.States.{Env, State, goes, fails, Branches, Rule, Action, followed, ◌>>=◌, ◌>>◌, give, demand_some, here}
 use Rattle.fsl_core.specs.logic.Terms.{Expression, term}
+use Rattle.fsl_core.specs.logic.Joining.{nought}
+use Rattle.fsl_core.specs.logic.Producing.{bank_of}
 use Rattle.fsl_lin.specs.Combination.{Combination}
 
 pub followed_append : {X Y : Type 0} (bs cs : Branches X) (rule : X → Rule Y) → followed (bs ++ cs) rule ≡ followed bs rule ++ followed cs rule
@@ -69,6 +71,14 @@ with_term e after s t h = from_here (λ env. term e env >>= after) s ∙ got Ter
 pub without_term : {Y : Type 0} (e : Expression) (after : Combination → Rule Y) (s : State) → e.term s.facts s.env ≡ None
     → (here >>= (λ env. term e env >>= after)) s ≡ fails Term ∷ []
 without_term e after s h = from_here (λ env. term e env >>= after) s ∙ lacked Term (e.term s.facts s.env) s after h
+
+-- a number of a bank, read, and what follows
+pub of_bank : (n : Expression) (after : Combination → Combination → Action) (bank : ℕ) (env : Env) (s : State) (o : Option Combination) (g k : Combination)
+    → get_or env bank nought ≡ g → o ≡ n.term s.facts env → o ≡ Some k
+    → followed (after g k s) (λ _. give env) ≡ (term n env >>= (λ t. after (bank_of bank env) t >> give env)) s
+of_bank n after bank env s o g k h l m =
+    ap (λ (x : Combination). followed (after x k s) (λ _. give env)) (sym h)
+    ∙ sym (got Term (n.term s.facts env) k s (λ t. after (bank_of bank env) t >> give env) (sym l ∙ m))
 
 -- ---- lists of branches that grow
 

@@ -3,14 +3,14 @@ use Rattle.std.proofs.Common.{◌≡◌, Bool, true, false, List, [], ◌∷◌,
 use Rattle.fsl_asrt.specs.declared.cells.FoundCell.{FoundCell}
 use Rattle.fsl_asrt.specs.Cells.{IsFound, IsFoundBy, left_at}
 use Rattle.fsl_asrt.specs.Take.{IsTheCell, held}
-use Rattle.fsl_asrt.proofs.Keeping.{AreKept, followed_same, followed_kept, given_kept, kept_append, kept_from, some_kept, met_kept, fitting_kept, at_most_kept}
+use Rattle.fsl_asrt.proofs.Keeping.{AreKept, followed_same, followed_kept, given_kept, kept_append, kept_from, some_kept, demand_kept, fitting_kept, at_most_kept}
 use Rattle.fsl_asrt.proofs.Laws.{followed_append, followed_equal, followed_twice}
 use Rattle.fsl_core.specs.declared.chunk.Chunk.{Chunk}
 use Rattle.fsl_core.specs.declared.chunk.Chunk.TheVariants as chunk
 use Rattle.fsl_core.specs.declared.mode.Rung.{Rung}
 use Rattle.fsl_core.specs.declared.verdict.Kind.{Kind}
 use Rattle.fsl_core.specs.declared.verdict.Kind.TheVariants as kind
-use Rattle.fsl_core.specs.logic.States.{Env, State, goes, fails, Branches, Rule, followed, ◌>>=◌, ◌>>◌, give, demand, demand_some}
+use Rattle.fsl_core.specs.logic.States.{Env, State, goes, fails, Branches, Rule, followed, ◌>>=◌, ◌>>◌, give, demand_some}
 use Rattle.fsl_core.specs.logic.Terms.{fitting}
 use Rattle.fsl_core.specs.logic.Deciding.{proves_at_most, proves_equal, assume_at_most}
 use Rattle.fsl_core.specs.logic.Chunks.{Cell, Found, first, cell_at, enough_at}
@@ -111,8 +111,7 @@ equal_kept : (v x : Combination) (env : Env) (s t : State) → t.chunks ≡ s.ch
     → AreKept s ((demand_equal kind.Value v x >> give env) t)
 equal_kept v x env s t e =
     let test = proves_equal t.facts v x in
-    let met : AreKept t (demand kind.Value test t ++ []) = kept_append t (demand kind.Value test t) [] (met_kept kind.Value test t) tt in
-    kept_from s t ((demand_equal kind.Value v x >> give env) t) e (given_kept t (demand_equal kind.Value v x t) (λ _. env) met)
+    kept_from s t ((demand_equal kind.Value v x >> give env) t) e (given_kept t (demand_equal kind.Value v x t) (λ _. env) (demand_kept kind.Value test t))
 
 match_kept : (w : Wanted Combination) (value : Option Combination) (env : Env) (s : State) → AreKept s (match_value w value env s)
 match_kept any value env s = (refl, tt)

@@ -5,6 +5,5 @@ pub mod Claims
 pub mod Counts
 pub mod Pointed
 pub mod Sides
-pub mod Supported
 pub mod Take
 pub mod Walk

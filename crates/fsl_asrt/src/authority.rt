@@ -124,7 +124,7 @@ fn add_bounding(alloc: Global, state: State, bank: Lin, n: Lin) -> Result<Went, 
 }
 
 /// Assumes that each chunk of tokens of a bank holds at most n.
-#[tactic(auto, using(crate::proofs::AuthorityLemmas::counted_on, crate::proofs::AuthorityLemmas::counted_kept, crate::proofs::AuthorityLemmas::counted_none, crate::proofs::AuthorityLemmas::counted_fails, crate::proofs::AuthorityLemmas::counted_all))]
+#[tactic(auto, using(crate::proofs::AuthorityLemmas::counted_all))]
 fn assume_counts(alloc: Global, state: State, bank: &Lin, n: &Lin) -> Result<Went, AllocError>
     ensures { IfOk result (λ went. branches went ≡ assume_counts bank.now n.now state.chunks state) }
 {

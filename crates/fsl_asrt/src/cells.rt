@@ -30,7 +30,7 @@ fn copied(alloc: Global, value: &Option<Lin>) -> Result<Option<Lin>, AllocError>
 }
 
 /// The cell that a chunk of this number is, if it is one.
-fn cell(alloc: Global, chunk: &Chunk, number: u32) -> Result<Option<FoundCell>, AllocError>
+pub fn cell(alloc: Global, chunk: &Chunk, number: u32) -> Result<Option<FoundCell>, AllocError>
     ensures cell { IfOk result (λ c. option_map cell_of c ≡ cell_in chunk.now) }
     ensures number { IfOk result (λ c. IfSome c (λ c. c.number ≡ number)) }
 {

@@ -54,7 +54,7 @@ fn find_cell(
 }
 
 /// Holds a value against a pattern, and sets a binder to it.
-fn match_value(
+pub fn match_value(
     alloc: Global,
     state: &State,
     value: Value,

@@ -19,8 +19,8 @@ returns-in-Some c =
     subst (λ (o : Option FoundCount). IsCountedBy Tok s.chunks (first (tokens_of g s.facts) s.chunks) o) c.in-Some.is c.in_ok-c.ensures in
     ok_then c.join_chunk.result branches (more_at g c.in-Some.c n s) (joining g n s) (joined_more g n s c.in-Some.c found) c.join_chunk.ensures
 
-pub returns-in-None : goal.returns-in-None
-returns-in-None c =
+pub returns : goal.returns
+returns c =
     let s = c.args.state in
     let g = c.args.bank in
     let n = c.args.n in
