@@ -1,9 +1,9 @@
 -- The authority over a bank: the tokens that it bounds, one chunk after the other.
-use Rattle.std.proofs.Common.{◌≡◌, ◌≤◌, ℕ, zero, suc, ◌+◌, Bool, true, false, List, [], ◌∷◌, ◌++◌, length, drop, Option, Some, None, pos, slice_get, remove, refl, sym, ap, ◌∙◌, append-nil, add-one}
+use Rattle.std.proofs.Common.{◌≡◌, ◌≤◌, ℕ, zero, suc, ◌+◌, true, false, List, [], ◌∷◌, length, drop, Option, Some, None, pos, slice_get, remove, refl, sym, ap, ◌∙◌, append-nil, add-one}
 use Rattle.std.proofs.Math.ListN.{drop_of_length-le}
 use Rattle.fsl_asrt.specs.declared.counts.FoundCount.{FoundCount}
 use Rattle.fsl_asrt.specs.Cells.{take_at}
-use Rattle.fsl_asrt.specs.Counts.{count_of, IsCounted, IsCountedBy, bounding, sole, authority_taken}
+use Rattle.fsl_asrt.specs.Counts.{IsCounted, IsCountedBy, bounding, sole, authority_taken}
 use Rattle.fsl_asrt.proofs.Sought.{found_at, found_none}
 use Rattle.fsl_asrt.proofs.CountsLemmas.{finds, finds_none}
 use Rattle.fsl_asrt.proofs.Keeping.{AreKept, followed_same, goes_kept, demand_kept, at_most_kept}
@@ -14,7 +14,7 @@ use Rattle.fsl_core.specs.declared.chunk.Chunk.{Chunk}
 use Rattle.fsl_core.specs.declared.chunk.Chunk.TheVariants as chunk
 use Rattle.fsl_core.specs.declared.verdict.Kind.{Kind}
 use Rattle.fsl_core.specs.declared.verdict.Kind.TheVariants as kind
-use Rattle.fsl_core.specs.logic.States.{State, goes, fails, Branches, followed, ◌>>=◌, ◌>>◌}
+use Rattle.fsl_core.specs.logic.States.{State, goes, fails, Branches, followed, ◌>>◌}
 use Rattle.fsl_core.specs.logic.Deciding.{proves_equal, assume_at_most}
 use Rattle.fsl_core.specs.logic.Chunks.{Count, Found, first, take, add, tokens_of, authority_of}
 use Rattle.fsl_core.specs.logic.Joining.{nought, counted, assume_count, assume_counts, assume_alone}

@@ -15,11 +15,11 @@ use Rattle.fsl_core.specs.declared.chunk.Chunk.{Chunk}
 use Rattle.fsl_core.specs.declared.chunk.Chunk.TheVariants as chunk
 use Rattle.fsl_core.specs.declared.mode.Rung.TheVariants.{Plain}
 use Rattle.fsl_core.specs.declared.verdict.Kind.TheVariants as kind
-use Rattle.fsl_core.specs.logic.States.{State, goes, fails, Branches, Action, Rule, followed, ◌>>=◌, ◌>>◌, give, done}
+use Rattle.fsl_core.specs.logic.States.{State, goes, fails, Branches, Action, followed, ◌>>=◌, ◌>>◌, give}
 use Rattle.fsl_core.specs.logic.Terms.{fitting}
 use Rattle.fsl_core.specs.logic.Deciding.{proves_equal, proves_at_most, assume_at_most}
-use Rattle.fsl_core.specs.logic.Chunks.{Count, Found, first, when, find, put, add, tokens_of, authority_of}
-use Rattle.fsl_core.specs.logic.Joining.{nought, assume_count, count_in, join_tokens}
+use Rattle.fsl_core.specs.logic.Chunks.{Count, Found, first, when, put, add, tokens_of, authority_of}
+use Rattle.fsl_core.specs.logic.Joining.{nought, join_tokens}
 use Rattle.fsl_core.specs.logic.Consuming.{demand_at_most, consume_tokens}
 use Rattle.fsl_lin.specs.Combination.{Combination, plus, minus}
 use Rattle.fsl_lin.specs.declared.fact.Fact.{Fact}

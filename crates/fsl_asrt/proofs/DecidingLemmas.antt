@@ -6,7 +6,7 @@ use Rattle.fsl_core.specs.declared.expr.CmpOp.{CmpOp}
 use Rattle.fsl_core.specs.declared.verdict.Kind.{Kind}
 use Rattle.fsl_core.specs.declared.verdict.Kind.TheVariants.{Term}
 use Rattle.fsl_core.specs.logic.States.{Env, State, goes, fails, Branches, followed, ◌>>=◌, done, demand}
-use Rattle.fsl_core.specs.logic.Terms.{Expression, term}
+use Rattle.fsl_core.specs.logic.Terms.{Expression}
 use Rattle.fsl_core.specs.logic.Deciding as deciding
 use Rattle.fsl_core.specs.logic.Deciding.{Condition, compares, sides, each_side, agrees, decide, decided, assume_cond, demand_cond, is_sure}
 use Rattle.fsl_lin.specs.Combination.{Combination}

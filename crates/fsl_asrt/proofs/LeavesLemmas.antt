@@ -7,7 +7,7 @@ use Rattle.fsl_core.specs.declared.expr.Expr.{Expr}
 use Rattle.fsl_core.specs.declared.verdict.Kind.TheVariants as kind
 use Rattle.fsl_core.specs.logic.States.{Env, State, goes, fails, Branches, followed, ◌>>=◌, give}
 use Rattle.fsl_core.specs.logic.Terms.{Expression, expr_of, terms}
-use Rattle.fsl_core.specs.logic.Chunks.{Leave, leave}
+use Rattle.fsl_core.specs.logic.Chunks.{leave}
 use Rattle.fsl_core.specs.logic.Producing.{Instance, leave_terms}
 use Rattle.fsl_lin.specs.Combination.{Combination}
 

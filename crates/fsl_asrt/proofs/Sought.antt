@@ -5,7 +5,7 @@ use Rattle.fsl_chunk.specs.Fits.{found_number, number_of}
 use Rattle.fsl_chunk.proofs.FoundItems.{taken_found}
 use Rattle.fsl_core.specs.declared.chunk.Chunk.{Chunk}
 use Rattle.fsl_core.specs.declared.verdict.Kind.{Kind}
-use Rattle.fsl_core.specs.logic.States.{State, goes, fails, Branches, Rule, followed, ◌>>=◌, ◌>>◌, give}
+use Rattle.fsl_core.specs.logic.States.{State, goes, fails, Rule, followed, ◌>>=◌, ◌>>◌, give}
 use Rattle.fsl_core.specs.logic.Chunks.{Found, Reading, first, find, find_or, take, add}
 use Rattle.fsl_core.specs.logic.Joining.{add_once}
 

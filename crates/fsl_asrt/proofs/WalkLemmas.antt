@@ -1,5 +1,5 @@
 -- Assertions that are produced or consumed one after the other.
-use Rattle.std.proofs.Common.{◌≡◌, ℕ, suc, ◌+◌, ◌<◌, Bool, true, false, List, [], ◌∷◌, ◌++◌, length, get_or, drop, map, refl, sym, ap, subst, ◌∙◌, add-one, drop-cons, append-nil}
+use Rattle.std.proofs.Common.{◌≡◌, ℕ, suc, ◌+◌, ◌<◌, Bool, true, false, List, [], ◌∷◌, ◌++◌, length, get_or, drop, map, refl, sym, ap, ◌∙◌, add-one, drop-cons, append-nil}
 use Rattle.fsl_asrt.specs.Branch.{bounds, decided as decided_list}
 use Rattle.fsl_asrt.specs.declared.branch.Bound.{Bound}
 use Rattle.fsl_asrt.specs.declared.branch.Decided.{Decided}

@@ -31,7 +31,12 @@ pub struct PointsTo {
 }
 
 /// A pattern in terms; `None` where its expression is no term.
-pub fn value_of(alloc: Global, state: &State, pat: &Pat, env: &Env) -> Result<Option<Value>, AllocError>
+pub fn value_of(
+    alloc: Global,
+    state: &State,
+    pat: &Pat,
+    env: &Env,
+) -> Result<Option<Value>, AllocError>
     ensures { IfOk result (λ v. wanted_read v state.now ≡ wanted (pat_of expr_of pat.now) env.now state.now) }
 {
     match pat {

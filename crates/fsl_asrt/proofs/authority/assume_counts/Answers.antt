@@ -2,8 +2,7 @@ use Rattle.std.proofs.Common.{◌≡◌, [], ◌∷◌, Option, Some, slice_get,
 use Rattle.fsl_asrt.proofs.AuthorityLemmas.{counted_on, counted_kept, counted_none, counted_fails}
 use Rattle.fsl_asrt.proofs.Keeping.{went_is}
 use Rattle.fsl_core.specs.logic.States.{goes, fails}
-use Rattle.fsl_core.specs.logic.Chunks.{tokens_of}
-use Rattle.fsl_core.specs.logic.Joining.{counted, assume_count, assume_counts}
+use Rattle.fsl_core.specs.logic.Joining.{assume_count, assume_counts}
 use Rattle.fsl_lin.specs.Combination.{Combination}
 use Rattle.fsl_asrt.proofs.authority.assume_counts.Goals as goal
 

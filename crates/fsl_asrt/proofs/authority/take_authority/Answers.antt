@@ -1,4 +1,4 @@
-use Rattle.std.proofs.Common.{◌≡◌, Option, Some, None, subst, ◌∙◌}
+use Rattle.std.proofs.Common.{Option, Some, None, subst, ◌∙◌}
 use Rattle.fsl_chunk.specs.declared.kind.ChunkKind.TheVariants.{Auth}
 use Rattle.fsl_asrt.specs.declared.counts.FoundCount.{FoundCount}
 use Rattle.fsl_asrt.specs.Counts.{IsCountedBy}

@@ -1,4 +1,4 @@
-use Rattle.std.proofs.Common.{◌≡◌, Option, Some, None, pos, subst}
+use Rattle.std.proofs.Common.{Option, Some, None, pos, subst}
 use Rattle.fsl_chunk.specs.Went.{branches}
 use Rattle.fsl_chunk.specs.declared.kind.ChunkKind.TheVariants.{Auth}
 use Rattle.fsl_asrt.specs.declared.counts.FoundCount.{FoundCount}

@@ -1,4 +1,4 @@
-use Rattle.std.proofs.Common.{◌≡◌, Option, Some, None, subst}
+use Rattle.std.proofs.Common.{Option, Some, None, subst}
 use Rattle.fsl_chunk.specs.Went.{branches}
 use Rattle.fsl_chunk.specs.declared.kind.ChunkKind.TheVariants.{Tok}
 use Rattle.fsl_asrt.specs.declared.counts.FoundCount.{FoundCount}
