@@ -1,5 +1,5 @@
 -- Atomic loads, by parts of the rule.
-use Rattle.std.proofs.Common.{◌≡◌, ◌≤◌, ◌<◌, ℕ, ◌+◌, Bool, true, false, List, [], ◌∷◌, length, get_or, drop, slice_get, Option, Some, None, refl, sym, ap, subst, ◌∙◌, append-nil}
+use Rattle.std.proofs.Common.{◌≡◌, ◌≤◌, ◌<◌, ℕ, ◌+◌, Bool, true, false, List, [], ◌∷◌, ◌++◌, length, get_or, drop, slice_get, Option, Some, None, pos, refl, sym, ap, subst, ◌∙◌, append-nil}
 use Rattle.std.specs.Prelude.{is_some, if◌then◌else◌}
 use Rattle.std.specs.Option.{option_map}
 use Rattle.std.proofs.Math.ListN.{drop_of_length-le}
@@ -113,23 +113,29 @@ sides_by : (a b : Combination) (s : State) (same apart : Bool) → proves_equal 
 sides_by a b s true apart e h = rw e (refl, tt)
 sides_by a b s false true e h = rw (e, h) (refl, tt)
 sides_by a b s false false e h =
-    rw (e, h) (kept_append s _ _ (side_kept s true (assume_equal a b s) (assume_kept (Is (minus a b)) s))
-    (kept_append s _ _ (side_kept s false (assume_at_most a _ b s) (at_most_kept a _ b s))
-    (kept_append s _ _ (side_kept s false (assume_at_most b _ a s) (at_most_kept b _ a s)) tt)))
+    let same : Branches Bool = followed (assume_equal a b s) (λ _. give true) in
+    let less : Branches Bool = followed (assume_at_most a (pos 1) b s) (λ _. give false) in
+    let more : Branches Bool = followed (assume_at_most b (pos 1) a s) (λ _. give false) in
+    rw (e, h) (kept_append s same (less ++ (more ++ [])) (side_kept s true (assume_equal a b s) (assume_kept (Is (minus a b)) s))
+    (kept_append s less (more ++ []) (side_kept s false (assume_at_most a (pos 1) b s) (at_most_kept a (pos 1) b s))
+    (kept_append s more [] (side_kept s false (assume_at_most b (pos 1) a s) (at_most_kept b (pos 1) a s)) tt)))
 
 sides_kept : (a b : Combination) (s : State) → AreKept s (each_side (decide_equal a b s.facts) s)
 sides_kept a b s = sides_by a b s (proves_equal s.facts a b) (proves_apart s.facts a b) refl refl
+
+-- by one answer, and then those behind it
+answered_kept : (v : Combination) (xs : List Combination) (s : State) → ((u : State) → AreKept u (is_excluded v xs u)) → (holds : Bool) (t : State)
+    → t.chunks ≡ s.chunks → AreKept s (chosen (give true) (is_excluded v xs) holds t)
+answered_kept v xs s k true t e = (e, tt)
+answered_kept v xs s k false t e = kept_from s t (is_excluded v xs t) e (k t)
 
 -- whether a value was read is asked of the state, and leaves the chunks as they are
 pub excluded_kept : (v : Combination) (xs : List Combination) (s : State) → AreKept s (is_excluded v xs s)
 excluded_kept v [] s = (refl, tt)
 excluded_kept v (x ∷ xs) s =
     subst (λ (bs : Branches Bool). AreKept s bs) (sym (excluded_first v x xs s))
-    (followed_kept s (each_side (decide_equal v x s.facts) s) (chosen (give true) (is_excluded v xs)) (sides_kept v x s) (λ holds t e. answered holds t e))
-  where
-    answered : (holds : Bool) (t : State) → t.chunks ≡ s.chunks → AreKept s (chosen (give true) (is_excluded v xs) holds t)
-    answered true t e = (e, tt)
-    answered false t e = kept_from s t (is_excluded v xs t) e (excluded_kept v xs t)
+    (followed_kept s (each_side (decide_equal v x s.facts) s) (chosen (give true) (is_excluded v xs)) (sides_kept v x s)
+    (λ holds t e. answered_kept v xs s (λ u. excluded_kept v xs u) holds t e))
 
 -- ---- the chunk of a permission
 

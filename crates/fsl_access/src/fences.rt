@@ -79,7 +79,7 @@ struct Taken {
 }
 
 /// All chunks of a rung are taken out, in order, to stand at another one.
-#[tactic(auto, using(crate::proofs::FencesLemmas::kept_end, crate::proofs::FencesLemmas::taken_end))]
+#[tactic(auto, using(crate::proofs::FencesLemmas::item_gone, crate::proofs::FencesLemmas::item_stays, crate::proofs::FencesLemmas::one_taken, crate::proofs::FencesLemmas::item_left, crate::proofs::FencesLemmas::kept_end, crate::proofs::FencesLemmas::taken_end))]
 fn take_all(alloc: Global, state: State, from: Rung, to: Rung) -> Result<Taken, AllocError>
     ensures state { IfOk result (λ t. t.state ≡ record state { chunks = filter (λ c. not (is_at from c)) state.chunks }) }
     ensures chunks { IfOk result (λ t. t.chunks ≡ map (at_rung to) (filter (is_at from) state.chunks)) }
@@ -171,7 +171,7 @@ fn points_at(
 }
 
 /// Chunks that stand at rungs are produced, one after the other.
-#[tactic(auto, using(crate::proofs::FencesLemmas::chunks_infeasible, crate::proofs::FencesLemmas::chunks_fail))]
+#[tactic(auto, using(crate::proofs::FencesLemmas::chunks_more, crate::proofs::FencesLemmas::chunks_infeasible, crate::proofs::FencesLemmas::chunks_fail))]
 fn produce_chunks(
     alloc: Global,
     state: State,

@@ -49,6 +49,7 @@ fn env_at(alloc: Global, inv: &Inv, args: &[Lin], v: &Lin) -> Result<Env, AllocE
 }
 
 /// All parts of the invariant of a location at a value are consumed, in order.
+#[tactic(auto, using(crate::proofs::PiecesLemmas::parts_found, crate::proofs::PiecesLemmas::parts_lack))]
 pub fn consume_parts(
     alloc: Global,
     p: &Program,
@@ -125,6 +126,7 @@ fn consume_part(
 }
 
 /// One part of the invariant of a location at a value is produced.
+#[tactic(auto, using(crate::proofs::PiecesLemmas::part_found, crate::proofs::PiecesLemmas::part_lacks))]
 pub fn produce_part(
     alloc: Global,
     p: &Program,
