@@ -24,9 +24,9 @@ some_when true x = refl
 some_when false x = refl
 
 -- a chunk is a permission where it stands for the location
-pub is_permission : (facts : List Fact) (at a : Combination) (inv : ℕ) (args : List Combination) (part : ℕ) (out : List Combination) (c : Chunk) (b : Bool)
+pub stands_for : (facts : List Fact) (at a : Combination) (inv : ℕ) (args : List Combination) (part : ℕ) (out : List Combination) (c : Chunk) (b : Bool)
     → c ≡ chunk.Acq a inv args part out → b ≡ proves_equal facts a at → b ≡ is_some (permission_at at facts c)
-is_permission facts at a inv args part out c b e h =
+stands_for facts at a inv args part out c b e h =
     rw e (h ∙ sym (some_when (proves_equal facts a at) (record { leave = leave a inv args; part = part; out = out })))
 
 placed_one : (o : Option Permission) (n : ℕ) (places : List ℕ) → is_some o ≡ true → placed o n places ≡ n ∷ places

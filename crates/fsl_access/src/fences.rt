@@ -79,7 +79,7 @@ struct Taken {
 }
 
 /// All chunks of a rung are taken out, in order, to stand at another one.
-#[tactic(auto, using(crate::proofs::FencesLemmas::item_gone, crate::proofs::FencesLemmas::item_stays, crate::proofs::FencesLemmas::one_taken, crate::proofs::FencesLemmas::item_left, crate::proofs::FencesLemmas::kept_end, crate::proofs::FencesLemmas::taken_end))]
+#[tactic(auto, using(crate::proofs::FencesLemmas::item_stays, crate::proofs::FencesLemmas::item_left, crate::proofs::FencesLemmas::kept_end, crate::proofs::FencesLemmas::taken_end))]
 fn take_all(alloc: Global, state: State, from: Rung, to: Rung) -> Result<Taken, AllocError>
     ensures state { IfOk result (λ t. t.state ≡ record state { chunks = filter (λ c. not (is_at from c)) state.chunks }) }
     ensures chunks { IfOk result (λ t. t.chunks ≡ map (at_rung to) (filter (is_at from) state.chunks)) }
@@ -225,7 +225,6 @@ fn produce_cell(
 }
 
 /// An assertion is consumed where it can be used, and produced where relaxed writes take it.
-#[tactic(auto, using(crate::proofs::FencesLemmas::released))]
 fn release(alloc: Global, state: State, a: &Asrt) -> Result<List<Branch>, AllocError>
     ensures { IfOk result (λ bs. branches bs ≡ release (asrt_of a.now) state) }
 {

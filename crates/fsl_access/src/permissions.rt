@@ -19,7 +19,6 @@ pub struct Permission {
 }
 
 /// Whether a chunk is a permission for the location at an address.
-#[tactic(auto, using(crate::proofs::PermissionsLemmas::is_permission))]
 fn is_permission(state: &State, at: &Lin, chunk: &Chunk) -> bool
     ensures { result ≡ is_some (permission_at at.now state.now.facts chunk.now) }
 {
@@ -30,7 +29,7 @@ fn is_permission(state: &State, at: &Lin, chunk: &Chunk) -> bool
 }
 
 /// The numbers of the permissions for the location at an address, ascending.
-#[tactic(auto, using(crate::proofs::PermissionsLemmas::place_more, crate::proofs::PermissionsLemmas::place_less, crate::proofs::PermissionsLemmas::places_end))]
+#[tactic(auto, using(crate::proofs::PermissionsLemmas::places_end))]
 pub fn permissions(alloc: Global, state: &State, at: &Lin) -> Result<List<u32>, AllocError>
     ensures { IfOk result (λ places. places ≡ permissions state.now.facts at.now 0 state.now.chunks) }
 {
