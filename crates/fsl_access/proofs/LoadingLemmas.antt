@@ -10,13 +10,13 @@ use Rattle.fsl_core.specs.declared.mode.Rung.{Rung}
 use Rattle.fsl_core.specs.declared.mode.Rung.TheVariants.{Plain}
 use Rattle.fsl_core.specs.declared.verdict.Kind.{Kind}
 use Rattle.fsl_core.specs.declared.verdict.Kind.TheVariants as kind
-use Rattle.fsl_core.specs.logic.States.{State, goes, fails, Branches, Action, Rule, followed, ◌>>=◌, give, look, demand_some, new_symbol}
+use Rattle.fsl_core.specs.logic.States.{State, goes, fails, Branches, Action, Rule, followed, ◌>>=◌, give, look, demand_some, new_symbol, set}
 use Rattle.fsl_core.specs.logic.Terms.{Expression, term}
 use Rattle.fsl_core.specs.logic.Deciding.{proves_equal, proves_apart, decide_equal, each_side, Side, assume_equal, assume_at_most}
 use Rattle.fsl_core.specs.logic.Chunks.{Found, first, find_or, init_at}
 use Rattle.fsl_core.specs.logic.Producing.{chosen}
 use Rattle.fsl_core.specs.logic.Locations.{Setting}
-use Rattle.fsl_core.specs.logic.Accesses.{gaining, is_excluded, permission_in, gain_by, gain_each, load_atomic}
+use Rattle.fsl_core.specs.logic.Accesses.{gaining, is_excluded, permissions, permission_in, gain_by, gain_each, load_atomic}
 use Rattle.fsl_lin.specs.Combination.{Combination, minus}
 use Rattle.fsl_lin.specs.declared.fact.Fact.TheVariants.{Is}
 use Rattle.fsl_chunk.specs.Kind.{kind_of, rung_of}
@@ -98,6 +98,13 @@ pub gains_done : (p : Setting) (rung : Rung) (at v : Combination) (i : ℕ) (pla
     → followed bs (λ _. gain_each p rung at v (drop i places)) ≡ whole → bs ≡ whole
 gains_done p rung at v i places bs whole past so =
     sym (followed_give bs) ∙ ap (λ (xs : List ℕ). followed bs (λ _. gain_each p rung at v xs)) (sym (drop_of_length-le places past)) ∙ so
+
+-- the variable is set behind them
+pub loaded_by : (p : Setting) (slot : ℕ) (rung : Rung) (at v : Combination) (s : State) (places : List ℕ) (gained : Branches (Unit {0}))
+    → places ≡ permissions s.facts at 0 s.chunks → gained ≡ gain_each p rung at v places s → followed gained (λ _. set slot v) ≡ loaded p slot rung at v s
+loaded_by p slot rung at v s places gained h k =
+    ap (λ (bs : Branches (Unit {0})). followed bs (λ _. set slot v)) (k ∙ ap (λ (xs : List ℕ). gain_each p rung at v xs s) h)
+    ∙ sym (append-nil (followed (gain_each p rung at v (permissions s.facts at 0 s.chunks) s) (λ _. set slot v)))
 
 -- ---- values that were read before
 

@@ -12,6 +12,7 @@ ghost use Rattle.fsl_chunk.specs.Fits.{leave_of};
 ghost use Rattle.fsl_access.specs.Located.{new_location, based, located, with_leave};
 
 use crate::accesses::at_least_one;
+use crate::pieces::invariant;
 use fsl_asrt::all_terms;
 use fsl_base::{List, TryClone};
 use fsl_chunk::{Leave, Made, State, Went};
@@ -139,7 +140,7 @@ fn add_leave(
     if rmw {
         return add_update(alloc, state, l);
     }
-    match p.invs().get(l.inv as usize) {
+    match invariant(p, l.inv) {
         Some(inv) => add_permissions(alloc, state, l, inv.parts.as_slice()),
         None => Ok(Went::Goes { state }),
     }
