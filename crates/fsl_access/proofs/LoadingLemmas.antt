@@ -1,5 +1,5 @@
 -- Atomic loads, by parts of the rule.
-use Rattle.std.proofs.Common.{◌≡◌, ◌≤◌, ◌<◌, ℕ, ◌+◌, Bool, true, false, List, [], ◌∷◌, ◌++◌, length, get_or, drop, slice_get, Option, Some, None, pos, refl, sym, ap, subst, ◌∙◌, append-nil}
+use Rattle.std.proofs.Common.{◌≡◌, ◌≤◌, ◌<◌, ℕ, ◌+◌, Bool, true, false, List, [], ◌∷◌, ◌++◌, length, get_or, drop, slice_get, Option, Some, None, pos, refl, sym, ap, subst, ◌∙◌, append-nil, add-one, drop-cons}
 use Rattle.std.specs.Prelude.{is_some, if◌then◌else◌}
 use Rattle.std.specs.Option.{option_map}
 use Rattle.std.proofs.Math.ListN.{drop_of_length-le}
@@ -22,7 +22,6 @@ use Rattle.fsl_lin.specs.declared.fact.Fact.TheVariants.{Is}
 use Rattle.fsl_chunk.specs.Kind.{kind_of, rung_of}
 use Rattle.fsl_chunk.specs.declared.kind.ChunkKind.TheVariants as chunk_kind
 use Rattle.fsl_asrt.proofs.Laws.{followed_twice, followed_equal, followed_give, got, lacked, with_term, without_term, then_goes, then_fails}
-use Rattle.fsl_asrt.proofs.WalkLemmas.{next_item}
 use Rattle.fsl_asrt.proofs.Keeping.{AreKept, kept_append, followed_kept, kept_from, assume_kept, at_most_kept}
 use Rattle.fsl_access.specs.Loading.{loaded, gained_at}
 
@@ -87,12 +86,15 @@ pub gains_first : (p : Setting) (rung : Rung) (at v : Combination) (places : Lis
 gains_first p rung at v places s bs h =
     ap (λ (ds : Branches (Unit {0})). followed ds (λ _. gain_each p rung at v places)) h ∙ append-nil (gain_each p rung at v places s)
 
-pub gains_more : (p : Setting) (rung : Rung) (at v : Combination) (i : ℕ) (places : List ℕ) (place : ℕ) (bs cs whole : Branches (Unit {0}))
-    → i < length places → place ≡ get_or places i place → cs ≡ followed bs (λ _. gained_at p rung at v place)
+next_place : (i : ℕ) (places : List ℕ) → i < length places → drop i places ≡ get_or places i 0 ∷ drop (i + 1) places
+next_place i places below = rw add-one (drop-cons places i 0 below)
+
+pub gains_more : (p : Setting) (rung : Rung) (at v : Combination) (i : ℕ) (places : List ℕ) (bs cs whole : Branches (Unit {0}))
+    → i < length places → cs ≡ followed bs (λ _. gained_at p rung at v (get_or places i 0))
     → followed bs (λ _. gain_each p rung at v (drop i places)) ≡ whole → followed cs (λ _. gain_each p rung at v (drop (i + 1) places)) ≡ whole
-gains_more p rung at v i places place bs cs whole below is h so =
-    gains_on p rung at v place (drop (i + 1) places) bs cs h
-    ∙ ap (λ (xs : List ℕ). followed bs (λ _. gain_each p rung at v xs)) (sym (next_item places i place below is)) ∙ so
+gains_more p rung at v i places bs cs whole below h so =
+    gains_on p rung at v (get_or places i 0) (drop (i + 1) places) bs cs h
+    ∙ ap (λ (xs : List ℕ). followed bs (λ _. gain_each p rung at v xs)) (sym (next_place i places below)) ∙ so
 
 pub gains_done : (p : Setting) (rung : Rung) (at v : Combination) (i : ℕ) (places : List ℕ) (bs whole : Branches (Unit {0})) → length places ≤ i
     → followed bs (λ _. gain_each p rung at v (drop i places)) ≡ whole → bs ≡ whole

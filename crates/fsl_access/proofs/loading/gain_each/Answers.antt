@@ -5,7 +5,9 @@ use Rattle.fsl_access.proofs.LoadingLemmas.{gains_more, gains_done}
 use Rattle.fsl_access.proofs.loading.gain_each.Goals as goal
 
 pub loop-place-preserved : goal.loop-place-preserved
-loop-place-preserved c = let f = c.in_ok-before-2.ensures in let g = c.row_known-1 in let h = c.loop-place-test.true in ?
+loop-place-preserved c =
+    gains_more (setting_of asrt_of c.args.p.now) c.args.rung c.args.at.now c.args.v.now c.loop-place.place-index c.args.places.now
+    (branches c.loop-place.before) (branches c.in_ok-before-2.before) _ c.loop-place-test.true c.in_ok-before-2.ensures c.loop-place.invariant
 
 pub returns : goal.returns
 returns c =
