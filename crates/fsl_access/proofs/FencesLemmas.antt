@@ -1,14 +1,12 @@
 -- Fences, by parts of the rule.
-use Rattle.std.proofs.Common.{arith, ◌≡◌, ◌≤◌, ◌<◌, ℕ, zero, suc, ◌+◌, ◌-◌, Bool, true, false, not, filter, List, [], ◌∷◌, ◌++◌, map, take, drop, length, remove, slice_get, Some, refl, sym, ap, ◌∙◌, append_assoc, append-nil, add-one}
+use Rattle.std.proofs.Common.{arith, ◌≡◌, ◌≤◌, ◌<◌, ℕ, zero, suc, ◌+◌, ◌-◌, Bool, true, false, not, filter, List, [], ◌∷◌, ◌++◌, map, take, drop, length, remove, slice_get, Some, refl, sym, ap, ◌∙◌, append_assoc, append-nil}
 use Rattle.std.proofs.Math.ListN.{drop_of_length-le}
 use Rattle.std.proofs.lemmas.List.Edits.{length-remove}
-use Rattle.std.proofs.lemmas.Grind.{common_steps}
 use Rattle.fsl_core.specs.declared.chunk.Chunk.{Chunk}
-use Rattle.fsl_core.specs.declared.mode.Rung.{Rung}
 use Rattle.fsl_core.specs.declared.mode.Rung.TheVariants.{Plain, Up, Down}
 use Rattle.fsl_core.specs.declared.verdict.Kind.{Kind}
 use Rattle.fsl_core.specs.declared.verdict.Mood.TheVariants as mood
-use Rattle.fsl_core.specs.logic.States.{Env, State, goes, fails, Branches, Action, followed, ◌>>=◌, ◌>>◌, done}
+use Rattle.fsl_core.specs.logic.States.{Env, State, goes, fails, Branches, followed, ◌>>◌, done}
 use Rattle.fsl_core.specs.logic.Assertions.{Assertion}
 use Rattle.fsl_core.specs.logic.Joining.{at_rung, produce_chunk, produce_chunks}
 use Rattle.fsl_core.specs.logic.Fences.{is_at, acquire, release}

@@ -1,6 +1,6 @@
 -- Atomic loads, by parts of the rule.
-use Rattle.std.proofs.Common.{◌≡◌, ◌≤◌, ◌<◌, ℕ, ◌+◌, Bool, true, false, List, [], ◌∷◌, ◌++◌, length, get_or, drop, slice_get, Option, Some, None, pos, refl, sym, ap, subst, ◌∙◌, append-nil, add-one, drop-cons}
-use Rattle.std.specs.Prelude.{is_some, if◌then◌else◌}
+use Rattle.std.proofs.Common.{◌≡◌, ◌≤◌, ◌<◌, ℕ, ◌+◌, Bool, true, false, List, [], ◌∷◌, ◌++◌, length, get_or, drop, Option, Some, None, pos, refl, sym, ap, subst, ◌∙◌, append-nil, add-one, drop-cons}
+use Rattle.std.specs.Prelude.{is_some}
 use Rattle.std.specs.Option.{option_map}
 use Rattle.std.proofs.Math.ListN.{drop_of_length-le}
 use Rattle.fsl_core.specs.declared.chunk.Chunk.{Chunk}
@@ -10,9 +10,9 @@ use Rattle.fsl_core.specs.declared.mode.Rung.{Rung}
 use Rattle.fsl_core.specs.declared.mode.Rung.TheVariants.{Plain}
 use Rattle.fsl_core.specs.declared.verdict.Kind.{Kind}
 use Rattle.fsl_core.specs.declared.verdict.Kind.TheVariants as kind
-use Rattle.fsl_core.specs.logic.States.{State, goes, fails, Branches, Action, Rule, followed, ◌>>=◌, give, look, demand_some, new_symbol, set}
-use Rattle.fsl_core.specs.logic.Terms.{Expression, term}
-use Rattle.fsl_core.specs.logic.Deciding.{proves_equal, proves_apart, decide_equal, each_side, Side, assume_equal, assume_at_most}
+use Rattle.fsl_core.specs.logic.States.{State, goes, fails, Branches, Action, followed, ◌>>=◌, give, look, demand_some, new_symbol, set}
+use Rattle.fsl_core.specs.logic.Terms.{Expression}
+use Rattle.fsl_core.specs.logic.Deciding.{proves_equal, proves_apart, decide_equal, each_side, assume_equal, assume_at_most}
 use Rattle.fsl_core.specs.logic.Chunks.{Found, first, find_or, init_at}
 use Rattle.fsl_core.specs.logic.Producing.{chosen}
 use Rattle.fsl_core.specs.logic.Locations.{Setting}
@@ -21,7 +21,7 @@ use Rattle.fsl_lin.specs.Combination.{Combination, minus}
 use Rattle.fsl_lin.specs.declared.fact.Fact.TheVariants.{Is}
 use Rattle.fsl_chunk.specs.Kind.{kind_of, rung_of}
 use Rattle.fsl_chunk.specs.declared.kind.ChunkKind.TheVariants as chunk_kind
-use Rattle.fsl_asrt.proofs.Laws.{followed_twice, followed_equal, followed_give, got, lacked, with_term, without_term, then_goes, then_fails}
+use Rattle.fsl_asrt.proofs.Laws.{followed_twice, followed_equal, followed_give, with_term, without_term, then_goes, then_fails}
 use Rattle.fsl_asrt.proofs.Keeping.{AreKept, kept_append, followed_kept, kept_from, assume_kept, at_most_kept}
 use Rattle.fsl_access.specs.Loading.{loaded, gained_at}
 

@@ -20,12 +20,7 @@ use fsl_lin::Lin;
 use std::alloc::{AllocError, Global};
 
 /// A fence. One that does both acquires first.
-pub fn fence(
-    alloc: Global,
-    state: State,
-    mode: Mode,
-    a: &Asrt,
-) -> Result<List<Branch>, AllocError>
+pub fn fence(alloc: Global, state: State, mode: Mode, a: &Asrt) -> Result<List<Branch>, AllocError>
     ensures { IfOk result (λ bs. branches bs ≡ fence mode (asrt_of a.now) state) }
 {
     match acquire_where(alloc, state, acquires(mode))? {
@@ -122,12 +117,7 @@ fn is_at(rung: Rung, chunk: &Chunk) -> bool
 }
 
 /// A chunk that stands at a rung, at another one.
-fn at_rung(
-    alloc: Global,
-    _from: Rung,
-    rung: Rung,
-    chunk: &Chunk,
-) -> Result<Chunk, AllocError>
+fn at_rung(alloc: Global, _from: Rung, rung: Rung, chunk: &Chunk) -> Result<Chunk, AllocError>
     requires { IsTrue (is_at _from chunk.now) }
     ensures { IfOk result (λ c. c ≡ at_rung rung chunk.now) }
 {
@@ -172,11 +162,7 @@ fn points_at(
 
 /// Chunks that stand at rungs are produced, one after the other.
 #[tactic(auto, using(crate::proofs::FencesLemmas::chunks_more, crate::proofs::FencesLemmas::chunks_infeasible, crate::proofs::FencesLemmas::chunks_fail))]
-fn produce_chunks(
-    alloc: Global,
-    state: State,
-    chunks: List<Chunk>,
-) -> Result<Went, AllocError>
+fn produce_chunks(alloc: Global, state: State, chunks: List<Chunk>) -> Result<Went, AllocError>
     ensures { IfOk result (λ came. went came ≡ produce_chunks chunks state) }
 {
     let mut state = state;

@@ -182,12 +182,7 @@ fn add_permissions(
 }
 
 /// Leave to acquire one part.
-fn add_permission(
-    alloc: Global,
-    state: State,
-    l: &Leave,
-    part: u32,
-) -> Result<Went, AllocError>
+fn add_permission(alloc: Global, state: State, l: &Leave, part: u32) -> Result<Went, AllocError>
     ensures { IfOk result (λ went. branches went ≡ add (chunk.Acq l.now.at l.now.inv l.now.args part []) state) }
 {
     let chunk = Chunk::Acq {

@@ -11,9 +11,9 @@ loop-number-preserved c =
     let x = c.at.result.now in
     let there : slice_get cs n ≡ Some x = rw c.heap-in-loop-number.ensures at c.at.ensures in
     elim c.if-is_permission.branch [
-      then-is_permission+in_ok-push w ↦
+      | then-is_permission+in_ok-push w ↦
           place_more facts c.args.at.now cs n x c.loop-number.out c.if-is_permission.out _ there (sym c.is_permission.ensures ∙ w.if-is_permission.true)
           (w.out-is ∙ w.in_ok-push.ensures.pushed) c.loop-number.invariant
-    | else-is_permission w ↦
+      | else-is_permission w ↦
           rw w.out-is (place_less facts c.args.at.now cs n x c.loop-number.out _ there (sym c.is_permission.ensures ∙ w.if-is_permission.false) c.loop-number.invariant)
     ]

@@ -1,7 +1,6 @@
 use Rattle.std.proofs.Common.{◌≡◌, List, ◌∷◌, [], ◌++◌, sym, ap, ◌∙◌}
 use Rattle.fsl_core.specs.declared.assertion.Asrt.{Asrt}
-use Rattle.fsl_core.specs.logic.Locations.{setting_of, Piece, padded, consume_parts}
-use Rattle.fsl_core.specs.logic.Assertions.{asrt_of}
+use Rattle.fsl_core.specs.logic.Locations.{Piece, padded, consume_parts}
 use Rattle.fsl_lin.specs.Combination.{Combination}
 use Rattle.fsl_chunk.specs.Fits.{leave_of}
 use Rattle.fsl_asrt.specs.Branch.{branches}

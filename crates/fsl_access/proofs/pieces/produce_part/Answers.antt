@@ -1,6 +1,5 @@
 use Rattle.std.proofs.Common.{List, Option, sym, ap, ◌∙◌}
-use Rattle.fsl_core.specs.logic.Locations.{setting_of, Piece, produce_part}
-use Rattle.fsl_core.specs.logic.Assertions.{asrt_of}
+use Rattle.fsl_core.specs.logic.Locations.{Piece, produce_part}
 use Rattle.fsl_lin.specs.Combination.{Combination}
 use Rattle.fsl_chunk.specs.Fits.{leave_of}
 use Rattle.fsl_asrt.specs.Branch.{branches}
