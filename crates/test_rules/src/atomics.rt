@@ -4,7 +4,8 @@ use std::test::Fail;
 
 /// Invariants of one part, of two, and of a fact; and of claims, of a binder, of what may be no term, and of something else
 /// on each branch.
-const INVARIANTS: &str = "inv Flag(d) of v { if (v == 0) { emp } else { d |-> 7 } } inv Any() of v { emp } inv Low(k) of v { v <= k } inv Pair(d, e) of v { if (v == 0) { emp } else { d |-> 7 } } { if (v == 0) { emp } else { e |-> 8 } } inv Seen(d) of v { Init(d) } inv Asks(d) of v { Rel(d, Any()) } inv Lends(d) of v { Acq(d, Any(), 0, {}) } inv Least(d) of v { d |-> ?x &*& v <= x } inv Square() of v { v * v == 0 } inv Three(d) of v { if (v == 0) { d |-> 7 } else { if (v < 0) { 0 == 1 } else { Init(d) } } } ";
+const INVARIANTS: &str =
+    "inv Flag(d) of v { if (v == 0) { emp } else { d |-> 7 } } inv Any() of v { emp } inv Low(k) of v { v <= k } inv Pair(d, e) of v { if (v == 0) { emp } else { d |-> 7 } } { if (v == 0) { emp } else { e |-> 8 } } inv Seen(d) of v { Init(d) } inv Asks(d) of v { Rel(d, Any()) } inv Lends(d) of v { Acq(d, Any(), 0, {}) } inv Least(d) of v { d |-> ?x &*& v <= x } inv Square() of v { v * v == 0 } inv Three(d) of v { if (v == 0) { d |-> 7 } else { if (v < 0) { 0 == 1 } else { Init(d) } } } ";
 
 /// Allocations and frees.
 const OWNING: &[&str] = &[

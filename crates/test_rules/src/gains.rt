@@ -5,7 +5,8 @@ use std::test::Fail;
 
 /// Invariants of nothing, of a cell, of a claim, of a permission, of facts, of a choice, of two parts that say the value,
 /// and of what is no term.
-const INVARIANTS: &str = "inv Any() of v { emp } inv Has(d) of v { d |-> 7 } inv Seen(d) of v { Init(d) } inv Again(d) of v { Acq(d, Any(), 0, {}) } inv Same(d, e) of v { d == e } inv Low(k) of v { v <= k } inv Side(k) of v { if (v < k) { emp } else { emp } } inv Both(d, e) of v { d |-> v } { e |-> v } inv Square() of v { v * v == 0 } ";
+const INVARIANTS: &str =
+    "inv Any() of v { emp } inv Has(d) of v { d |-> 7 } inv Seen(d) of v { Init(d) } inv Again(d) of v { Acq(d, Any(), 0, {}) } inv Same(d, e) of v { d == e } inv Low(k) of v { v <= k } inv Side(k) of v { if (v < k) { emp } else { emp } } inv Both(d, e) of v { d |-> v } { e |-> v } inv Square() of v { v * v == 0 } ";
 
 /// Values that were read before are asked one after the other, the equal side first; those behind the one that the value
 /// is aren't. The greatest number of a term is 2^90, and what is past it is no fact.
