@@ -1,13 +1,12 @@
 -- Fences, by parts of the rule.
-use Rattle.std.proofs.Common.{arith, ◌≡◌, ◌≤◌, ◌<◌, ℕ, zero, suc, ◌+◌, Bool, true, false, not, filter, List, [], ◌∷◌, ◌++◌, map, take, drop, length, remove, slice_get, Some, refl, sym, ap, ◌∙◌, append_assoc, append-nil, add-one}
-use Rattle.std.proofs.Math.ListN.{drop_of_length-le, take_of_length-le}
-use Rattle.std.proofs.lemmas.Grind.{common_steps}
+use Rattle.std.proofs.Common.{arith, ◌≡◌, ◌≤◌, ◌<◌, ℕ, zero, suc, ◌+◌, ◌-◌, Bool, true, false, not, filter, List, [], ◌∷◌, ◌++◌, map, take, drop, length, remove, slice_get, Some, refl, sym, ap, ◌∙◌, append_assoc, append-nil}
+use Rattle.std.proofs.Math.ListN.{drop_of_length-le}
+use Rattle.std.proofs.lemmas.List.Edits.{length-remove}
 use Rattle.fsl_core.specs.declared.chunk.Chunk.{Chunk}
-use Rattle.fsl_core.specs.declared.mode.Rung.{Rung}
 use Rattle.fsl_core.specs.declared.mode.Rung.TheVariants.{Plain, Up, Down}
 use Rattle.fsl_core.specs.declared.verdict.Kind.{Kind}
 use Rattle.fsl_core.specs.declared.verdict.Mood.TheVariants as mood
-use Rattle.fsl_core.specs.logic.States.{Env, State, goes, fails, Branches, Action, followed, ◌>>=◌, ◌>>◌, done}
+use Rattle.fsl_core.specs.logic.States.{Env, State, goes, fails, Branches, followed, ◌>>◌, done}
 use Rattle.fsl_core.specs.logic.Assertions.{Assertion}
 use Rattle.fsl_core.specs.logic.Joining.{at_rung, produce_chunk, produce_chunks}
 use Rattle.fsl_core.specs.logic.Fences.{is_at, acquire, release}
@@ -63,6 +62,17 @@ one_taken f test n xs x out more whole h k e so =
     ap (λ ys. ys ++ rest) e ∙ append_assoc out (f x ∷ []) rest
     ∙ ap (λ ys. out ++ map f ys) (sym (item_taken test n xs x h k)) ∙ so
 
+-- fewer are left
+pub fewer : {X : Type 0} (n : ℕ) (xs ys : List X) → n < length xs → ys ≡ remove xs n → length ys - n < length xs - n
+fewer n xs ys below h =
+    let k : length (remove xs n) + 1 ≡ length xs = length-remove xs n below in
+    let l : length ys ≡ length (remove xs n) = ap length h in
+    omega (arith, below, k, l)
+
+-- nothing else changes
+pub still_rest : (s t u : State) (cs : List Chunk) → t ≡ record s { chunks = t.chunks } → u ≡ record t { chunks = cs } → u ≡ record s { chunks = u.chunks }
+still_rest s t u cs h k = k ∙ ap (λ (x : State). record x { chunks = cs }) h ∙ sym (ap (λ (x : State). record s { chunks = x.chunks }) k)
+
 -- ---- an acquire fence
 
 pub acquired : (s : State) → acquire s ≡ produce_chunks (map (at_rung Plain) (filter (is_at Down) s.chunks)) (record s { chunks = filter (λ c. not (is_at Down c)) s.chunks })
@@ -82,8 +92,16 @@ chunks_fail c cs s k whole h so = sym (then_fails (produce_chunk c s) (λ _. pro
 
 -- ---- a release fence
 
-pub released : (a : Assertion) (s : State)
+released : (a : Assertion) (s : State)
     → release a s ≡ followed (followed (a.consume mood.Cond Plain s.env s) (λ _. done)) (λ _. part_produced Up s.env a)
 released a s =
     from_here (λ env. a.consume mood.Cond Plain env >> part_produced Up env a) s
     ∙ sym (dropped (a.consume mood.Cond Plain s.env s) (part_produced Up s.env a))
+
+pub released_by : (a : Assertion) (s : State) (env own : Env) (given : Branches Env) (before : Branches (Unit {0})) → env ≡ s.env → own ≡ env
+    → given ≡ a.consume mood.Cond Plain own s → before ≡ followed given (λ _. done) → followed before (λ _. part_produced Up env a) ≡ release a s
+released_by a s env own given before h k l m =
+    ap (λ (bs : Branches (Unit {0})). followed bs (λ _. part_produced Up env a))
+    (m ∙ ap (λ (bs : Branches Env). followed bs (λ _. done)) (l ∙ ap (λ (e : Env). a.consume mood.Cond Plain e s) (k ∙ h)))
+    ∙ ap (λ (e : Env). followed (followed (a.consume mood.Cond Plain s.env s) (λ _. done)) (λ _. part_produced Up e a)) h
+    ∙ sym (released a s)

@@ -1,6 +1,6 @@
 -- Atomic loads, by parts of the rule.
-use Rattle.std.proofs.Common.{◌≡◌, ◌≤◌, ◌<◌, ℕ, ◌+◌, Bool, true, false, List, [], ◌∷◌, length, get_or, drop, slice_get, Option, Some, None, refl, sym, ap, subst, ◌∙◌, append-nil}
-use Rattle.std.specs.Prelude.{is_some, if◌then◌else◌}
+use Rattle.std.proofs.Common.{◌≡◌, ◌≤◌, ◌<◌, ℕ, ◌+◌, Bool, true, false, List, [], ◌∷◌, ◌++◌, length, get_or, drop, Option, Some, None, pos, refl, sym, ap, subst, ◌∙◌, append-nil, add-one, drop-cons}
+use Rattle.std.specs.Prelude.{is_some}
 use Rattle.std.specs.Option.{option_map}
 use Rattle.std.proofs.Math.ListN.{drop_of_length-le}
 use Rattle.fsl_core.specs.declared.chunk.Chunk.{Chunk}
@@ -10,19 +10,18 @@ use Rattle.fsl_core.specs.declared.mode.Rung.{Rung}
 use Rattle.fsl_core.specs.declared.mode.Rung.TheVariants.{Plain}
 use Rattle.fsl_core.specs.declared.verdict.Kind.{Kind}
 use Rattle.fsl_core.specs.declared.verdict.Kind.TheVariants as kind
-use Rattle.fsl_core.specs.logic.States.{State, goes, fails, Branches, Action, Rule, followed, ◌>>=◌, give, look, demand_some, new_symbol}
-use Rattle.fsl_core.specs.logic.Terms.{Expression, term}
-use Rattle.fsl_core.specs.logic.Deciding.{proves_equal, proves_apart, decide_equal, each_side, Side, assume_equal, assume_at_most}
+use Rattle.fsl_core.specs.logic.States.{State, goes, fails, Branches, Action, followed, ◌>>=◌, give, look, demand_some, new_symbol, set}
+use Rattle.fsl_core.specs.logic.Terms.{Expression}
+use Rattle.fsl_core.specs.logic.Deciding.{proves_equal, proves_apart, decide_equal, each_side, assume_equal, assume_at_most}
 use Rattle.fsl_core.specs.logic.Chunks.{Found, first, find_or, init_at}
 use Rattle.fsl_core.specs.logic.Producing.{chosen}
 use Rattle.fsl_core.specs.logic.Locations.{Setting}
-use Rattle.fsl_core.specs.logic.Accesses.{gaining, is_excluded, permission_in, gain_by, gain_each, load_atomic}
+use Rattle.fsl_core.specs.logic.Accesses.{gaining, is_excluded, permissions, permission_in, gain_by, gain_each, load_atomic}
 use Rattle.fsl_lin.specs.Combination.{Combination, minus}
 use Rattle.fsl_lin.specs.declared.fact.Fact.TheVariants.{Is}
 use Rattle.fsl_chunk.specs.Kind.{kind_of, rung_of}
 use Rattle.fsl_chunk.specs.declared.kind.ChunkKind.TheVariants as chunk_kind
-use Rattle.fsl_asrt.proofs.Laws.{followed_twice, followed_equal, followed_give, got, lacked, with_term, without_term, then_goes, then_fails}
-use Rattle.fsl_asrt.proofs.WalkLemmas.{next_item}
+use Rattle.fsl_asrt.proofs.Laws.{followed_twice, followed_equal, followed_give, with_term, without_term, then_goes, then_fails}
 use Rattle.fsl_asrt.proofs.Keeping.{AreKept, kept_append, followed_kept, kept_from, assume_kept, at_most_kept}
 use Rattle.fsl_access.specs.Loading.{loaded, gained_at}
 
@@ -87,17 +86,27 @@ pub gains_first : (p : Setting) (rung : Rung) (at v : Combination) (places : Lis
 gains_first p rung at v places s bs h =
     ap (λ (ds : Branches (Unit {0})). followed ds (λ _. gain_each p rung at v places)) h ∙ append-nil (gain_each p rung at v places s)
 
-pub gains_more : (p : Setting) (rung : Rung) (at v : Combination) (i : ℕ) (places : List ℕ) (place : ℕ) (bs cs whole : Branches (Unit {0}))
-    → i < length places → place ≡ get_or places i place → cs ≡ followed bs (λ _. gained_at p rung at v place)
+next_place : (i : ℕ) (places : List ℕ) → i < length places → drop i places ≡ get_or places i 0 ∷ drop (i + 1) places
+next_place i places below = rw add-one (drop-cons places i 0 below)
+
+pub gains_more : (p : Setting) (rung : Rung) (at v : Combination) (i : ℕ) (places : List ℕ) (bs cs whole : Branches (Unit {0}))
+    → i < length places → cs ≡ followed bs (λ _. gained_at p rung at v (get_or places i 0))
     → followed bs (λ _. gain_each p rung at v (drop i places)) ≡ whole → followed cs (λ _. gain_each p rung at v (drop (i + 1) places)) ≡ whole
-gains_more p rung at v i places place bs cs whole below is h so =
-    gains_on p rung at v place (drop (i + 1) places) bs cs h
-    ∙ ap (λ (xs : List ℕ). followed bs (λ _. gain_each p rung at v xs)) (sym (next_item places i place below is)) ∙ so
+gains_more p rung at v i places bs cs whole below h so =
+    gains_on p rung at v (get_or places i 0) (drop (i + 1) places) bs cs h
+    ∙ ap (λ (xs : List ℕ). followed bs (λ _. gain_each p rung at v xs)) (sym (next_place i places below)) ∙ so
 
 pub gains_done : (p : Setting) (rung : Rung) (at v : Combination) (i : ℕ) (places : List ℕ) (bs whole : Branches (Unit {0})) → length places ≤ i
     → followed bs (λ _. gain_each p rung at v (drop i places)) ≡ whole → bs ≡ whole
 gains_done p rung at v i places bs whole past so =
     sym (followed_give bs) ∙ ap (λ (xs : List ℕ). followed bs (λ _. gain_each p rung at v xs)) (sym (drop_of_length-le places past)) ∙ so
+
+-- the variable is set behind them
+pub loaded_by : (p : Setting) (slot : ℕ) (rung : Rung) (at v : Combination) (s : State) (places : List ℕ) (gained : Branches (Unit {0}))
+    → places ≡ permissions s.facts at 0 s.chunks → gained ≡ gain_each p rung at v places s → followed gained (λ _. set slot v) ≡ loaded p slot rung at v s
+loaded_by p slot rung at v s places gained h k =
+    ap (λ (bs : Branches (Unit {0})). followed bs (λ _. set slot v)) (k ∙ ap (λ (xs : List ℕ). gain_each p rung at v xs s) h)
+    ∙ sym (append-nil (followed (gain_each p rung at v (permissions s.facts at 0 s.chunks) s) (λ _. set slot v)))
 
 -- ---- values that were read before
 
@@ -113,23 +122,29 @@ sides_by : (a b : Combination) (s : State) (same apart : Bool) → proves_equal 
 sides_by a b s true apart e h = rw e (refl, tt)
 sides_by a b s false true e h = rw (e, h) (refl, tt)
 sides_by a b s false false e h =
-    rw (e, h) (kept_append s _ _ (side_kept s true (assume_equal a b s) (assume_kept (Is (minus a b)) s))
-    (kept_append s _ _ (side_kept s false (assume_at_most a _ b s) (at_most_kept a _ b s))
-    (kept_append s _ _ (side_kept s false (assume_at_most b _ a s) (at_most_kept b _ a s)) tt)))
+    let same : Branches Bool = followed (assume_equal a b s) (λ _. give true) in
+    let less : Branches Bool = followed (assume_at_most a (pos 1) b s) (λ _. give false) in
+    let more : Branches Bool = followed (assume_at_most b (pos 1) a s) (λ _. give false) in
+    rw (e, h) (kept_append s same (less ++ (more ++ [])) (side_kept s true (assume_equal a b s) (assume_kept (Is (minus a b)) s))
+    (kept_append s less (more ++ []) (side_kept s false (assume_at_most a (pos 1) b s) (at_most_kept a (pos 1) b s))
+    (kept_append s more [] (side_kept s false (assume_at_most b (pos 1) a s) (at_most_kept b (pos 1) a s)) tt)))
 
 sides_kept : (a b : Combination) (s : State) → AreKept s (each_side (decide_equal a b s.facts) s)
 sides_kept a b s = sides_by a b s (proves_equal s.facts a b) (proves_apart s.facts a b) refl refl
+
+-- by one answer, and then those behind it
+answered_kept : (v : Combination) (xs : List Combination) (s : State) → ((u : State) → AreKept u (is_excluded v xs u)) → (holds : Bool) (t : State)
+    → t.chunks ≡ s.chunks → AreKept s (chosen (give true) (is_excluded v xs) holds t)
+answered_kept v xs s k true t e = (e, tt)
+answered_kept v xs s k false t e = kept_from s t (is_excluded v xs t) e (k t)
 
 -- whether a value was read is asked of the state, and leaves the chunks as they are
 pub excluded_kept : (v : Combination) (xs : List Combination) (s : State) → AreKept s (is_excluded v xs s)
 excluded_kept v [] s = (refl, tt)
 excluded_kept v (x ∷ xs) s =
     subst (λ (bs : Branches Bool). AreKept s bs) (sym (excluded_first v x xs s))
-    (followed_kept s (each_side (decide_equal v x s.facts) s) (chosen (give true) (is_excluded v xs)) (sides_kept v x s) (λ holds t e. answered holds t e))
-  where
-    answered : (holds : Bool) (t : State) → t.chunks ≡ s.chunks → AreKept s (chosen (give true) (is_excluded v xs) holds t)
-    answered true t e = (e, tt)
-    answered false t e = kept_from s t (is_excluded v xs t) e (excluded_kept v xs t)
+    (followed_kept s (each_side (decide_equal v x s.facts) s) (chosen (give true) (is_excluded v xs)) (sides_kept v x s)
+    (λ holds t e. answered_kept v xs s (λ u. excluded_kept v xs u) holds t e))
 
 -- ---- the chunk of a permission
 

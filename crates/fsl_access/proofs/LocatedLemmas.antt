@@ -1,27 +1,24 @@
 -- Allocations of atomic locations, by parts of the rule.
-use Rattle.std.proofs.Common.{arith, ◌≡◌, ◌<◌, ◌≤◌, ℕ, ◌+◌, Bool, true, false, List, [], ◌∷◌, ◌++◌, length, get_or, drop, map, slice_get, Option, Some, None, nat_lt, refl, sym, ap, ◌∙◌, append-nil, length-append}
-use Rattle.std.specs.Prelude.{if◌then◌else◌}
-use Rattle.std.specs.Option.{option_map}
+use Rattle.std.proofs.Common.{◌≡◌, ◌<◌, ◌≤◌, ℕ, ◌+◌, Bool, true, false, List, [], ◌∷◌, ◌++◌, length, get_or, drop, map, slice_get, Option, Some, None, nat_lt, refl, sym, ap, ◌∙◌, length-append}
 use Rattle.std.proofs.Math.ListN.{drop_of_length-le}
-use Rattle.std.proofs.lemmas.Option.{slice_get-map}
 use Rattle.fsl_core.specs.declared.assertion.Asrt.{Asrt}
 use Rattle.fsl_core.specs.declared.chunk.Chunk.{Chunk}
 use Rattle.fsl_core.specs.declared.chunk.Chunk.TheVariants as chunk
 use Rattle.fsl_core.specs.declared.declaration.Inv.{Inv}
 use Rattle.fsl_core.specs.declared.verdict.Kind.{Kind}
 use Rattle.fsl_core.specs.Programs.{Program}
-use Rattle.fsl_core.specs.logic.States.{State, goes, fails, Branches, Action, followed, ◌>>=◌, ◌>>◌, new_symbol}
-use Rattle.fsl_core.specs.logic.Terms.{Expression, terms}
+use Rattle.fsl_core.specs.logic.States.{State, goes, fails, Branches, ◌>>=◌, ◌>>◌, new_symbol}
+use Rattle.fsl_core.specs.logic.Terms.{terms}
 use Rattle.fsl_core.specs.logic.Chunks.{add, Leave, leave}
 use Rattle.fsl_core.specs.logic.Producing.{Instance}
-use Rattle.fsl_core.specs.logic.Assertions.{Assertion, asrt_of}
+use Rattle.fsl_core.specs.logic.Assertions.{asrt_of}
 use Rattle.fsl_core.specs.logic.Locations.{Setting, setting_of, Invariant, parts_of}
-use Rattle.fsl_core.specs.logic.Accesses.{alloc_at, new_address, add_leave, add_permissions}
+use Rattle.fsl_core.specs.logic.Accesses.{alloc_at, add_leave, add_permissions}
 use Rattle.fsl_lin.specs.Combination.{Combination}
 use Rattle.fsl_asrt.proofs.Laws.{from_here, then_goes, then_fails}
 use Rattle.fsl_asrt.proofs.WalkLemmas.{next_item}
 use Rattle.fsl_access.proofs.AccessesLemmas.{address_then, at_least_one}
-use Rattle.fsl_access.proofs.SettingLemmas.{inv_of, invariant_at}
+use Rattle.fsl_access.proofs.SettingLemmas.{invariant_at}
 use Rattle.fsl_access.specs.Located.{located, based, new_location}
 
 -- ---- the arguments, and then the address

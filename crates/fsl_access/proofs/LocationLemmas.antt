@@ -1,12 +1,11 @@
 -- Chunks of locations that are looked for.
-use Rattle.std.proofs.Common.{◌≡◌, ℕ, Bool, true, false, List, [], ◌∷◌, ◌++◌, length, slice_get, Option, Some, None, refl, sym, ap, ◌∙◌, append-nil}
+use Rattle.std.proofs.Common.{◌≡◌, ℕ, Bool, true, false, List, [], ◌∷◌, length, slice_get, Option, Some, None, refl, ap, ◌∙◌, append-nil}
 use Rattle.std.specs.Prelude.{is_some}
 use Rattle.fsl_core.specs.declared.chunk.Chunk.{Chunk}
 use Rattle.fsl_core.specs.declared.chunk.Chunk.TheVariants as chunk
-use Rattle.fsl_core.specs.declared.mode.Rung.{Rung}
 use Rattle.fsl_core.specs.declared.verdict.Kind.{Kind}
-use Rattle.fsl_core.specs.logic.States.{State, goes, fails, Rule, Branches, followed, ◌>>=◌, demand_some}
-use Rattle.fsl_core.specs.logic.Chunks.{Found, Reading, Leave, leave, first, find_or, when, add, init_at, rel_at}
+use Rattle.fsl_core.specs.logic.States.{State, fails, Rule, Branches, followed, ◌>>=◌, demand_some}
+use Rattle.fsl_core.specs.logic.Chunks.{Found, Reading, Leave, leave, first, find_or, when, rel_at}
 use Rattle.fsl_core.specs.logic.Deciding.{proves_equal}
 use Rattle.fsl_lin.specs.Combination.{Combination}
 use Rattle.fsl_lin.specs.declared.fact.Fact.{Fact}

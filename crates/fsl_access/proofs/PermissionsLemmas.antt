@@ -1,5 +1,5 @@
 -- The permissions for a location among the chunks.
-use Rattle.std.proofs.Common.{arith, ◌≡◌, ◌≤◌, ◌<◌, ℕ, zero, suc, ◌+◌, Bool, true, false, List, [], ◌∷◌, ◌++◌, length, get_or, drop, slice_get, Option, Some, None, refl, sym, ap, ◌∙◌, append_assoc, append-nil}
+use Rattle.std.proofs.Common.{◌≡◌, ◌≤◌, ℕ, zero, suc, ◌+◌, Bool, true, false, List, [], ◌∷◌, ◌++◌, length, drop, slice_get, Option, Some, None, refl, sym, ap, ◌∙◌, append_assoc, append-nil, add-one}
 use Rattle.std.specs.Prelude.{is_some}
 use Rattle.std.proofs.Math.ListN.{drop_of_length-le}
 use Rattle.fsl_core.specs.declared.chunk.Chunk.{Chunk}
@@ -11,10 +11,23 @@ use Rattle.fsl_lin.specs.Combination.{Combination}
 use Rattle.fsl_lin.specs.declared.fact.Fact.{Fact}
 
 -- the chunk at a number, and those behind it
+next_at : (cs : List Chunk) (n : ℕ) (c : Chunk) → slice_get cs n ≡ Some c → drop n cs ≡ c ∷ drop (suc n) cs
+next_at [] n c h = absurd cc
+next_at (x ∷ xs) zero c h = let same : x ≡ c = cc in ap (λ (y : Chunk). y ∷ xs) same
+next_at (x ∷ xs) (suc n) c h = next_at xs n c h
+
 next_chunk : (cs : List Chunk) (n : ℕ) (c : Chunk) → slice_get cs n ≡ Some c → drop n cs ≡ c ∷ drop (n + 1) cs
-next_chunk [] n c h = absurd cc
-next_chunk (x ∷ xs) zero c h = let same : x ≡ c = cc in ap (λ (y : Chunk). y ∷ xs) same
-next_chunk (x ∷ xs) (suc n) c h = next_chunk xs n c h
+next_chunk cs n c h = rw add-one (next_at cs n c h)
+
+some_when : {X : Type 0} (test : Bool) (x : X) → is_some (when test x) ≡ test
+some_when true x = refl
+some_when false x = refl
+
+-- a chunk is a permission where it stands for the location
+pub stands_for : (facts : List Fact) (at a : Combination) (inv : ℕ) (args : List Combination) (part : ℕ) (out : List Combination) (c : Chunk) (b : Bool)
+    → c ≡ chunk.Acq a inv args part out → b ≡ proves_equal facts a at → b ≡ is_some (permission_at at facts c)
+stands_for facts at a inv args part out c b e h =
+    rw e (h ∙ sym (some_when (proves_equal facts a at) (record { leave = leave a inv args; part = part; out = out })))
 
 placed_one : (o : Option Permission) (n : ℕ) (places : List ℕ) → is_some o ≡ true → placed o n places ≡ n ∷ places
 placed_one (Some x) n places h = refl

@@ -1,5 +1,5 @@
 -- The parts of an invariant, one after the other.
-use Rattle.std.proofs.Common.{arith, ◌≡◌, ◌≤◌, ◌<◌, ℕ, zero, suc, ◌+◌, ◌-◌, Bool, true, List, [], ◌∷◌, ◌++◌, length, get_or, drop, map, slice_get, replicate, Option, Some, None, refl, sym, ap, ◌∙◌, append_assoc, append-nil, length-append}
+use Rattle.std.proofs.Common.{arith, ◌≡◌, ◌≤◌, ◌<◌, ℕ, suc, ◌+◌, ◌-◌, List, [], ◌∷◌, ◌++◌, length, get_or, drop, map, slice_get, replicate, Option, Some, None, refl, sym, ap, ◌∙◌, append_assoc, append-nil, length-append}
 use Rattle.std.specs.Option.{option_map}
 use Rattle.std.proofs.Math.ListN.{drop_of_length-le}
 use Rattle.std.proofs.lemmas.Option.{slice_get-map}

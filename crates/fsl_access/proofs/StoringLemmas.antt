@@ -1,9 +1,8 @@
 -- Atomic stores, by parts of the rule.
-use Rattle.std.proofs.Common.{◌≡◌, [], ◌∷◌, Option, Some, None, sym, ◌∙◌}
-use Rattle.fsl_core.specs.declared.chunk.Chunk.{Chunk}
+use Rattle.std.proofs.Common.{◌≡◌, [], ◌∷◌, Some, None, ◌∙◌}
 use Rattle.fsl_core.specs.declared.mode.Mode.{Mode}
 use Rattle.fsl_core.specs.declared.verdict.Kind.TheVariants as kind
-use Rattle.fsl_core.specs.logic.States.{State, fails, Action, followed, ◌>>=◌, demand_some}
+use Rattle.fsl_core.specs.logic.States.{State, fails, Action, ◌>>=◌}
 use Rattle.fsl_core.specs.logic.Terms.{Expression, term}
 use Rattle.fsl_core.specs.logic.Chunks.{Leave, first, find_or, rel_at}
 use Rattle.fsl_core.specs.logic.Locations.{Setting}

@@ -4,7 +4,7 @@ use Rattle.fsl_core.specs.declared.assertion.Asrt.{Asrt}
 use Rattle.fsl_core.specs.declared.declaration.Inv.{Inv}
 use Rattle.fsl_core.specs.declared.mode.Rung.{Rung}
 use Rattle.fsl_core.specs.declared.verdict.Mood.TheVariants as mood
-use Rattle.fsl_core.specs.logic.States.{Env, Action, ◌>>=◌, ◌>>◌, done}
+use Rattle.fsl_core.specs.logic.States.{Env, Action, ◌>>◌, done}
 use Rattle.fsl_core.specs.logic.Assertions.{Assertion, asrt_of}
 use Rattle.fsl_core.specs.logic.Locations.{Piece, padded}
 use Rattle.fsl_lin.specs.Combination.{Combination}

@@ -1,7 +1,7 @@
 -- Parts of the rule of atomic stores.
 use Rattle.fsl_core.specs.declared.mode.Rung.{Rung}
 use Rattle.fsl_core.specs.declared.mode.Rung.TheVariants.{Plain}
-use Rattle.fsl_core.specs.logic.States.{Action, ◌>>=◌, ◌>>◌}
+use Rattle.fsl_core.specs.logic.States.{Action, ◌>>◌}
 use Rattle.fsl_core.specs.logic.Chunks.{Leave}
 use Rattle.fsl_core.specs.logic.Joining.{produce_init}
 use Rattle.fsl_core.specs.logic.Locations.{Setting, parts_at, consume_parts}

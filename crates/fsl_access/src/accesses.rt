@@ -1,8 +1,10 @@
 //! The rules of allocations, loads, stores and frees of non-atomic cells.
-ghost use Rattle.std.specs.Prelude.{◌≡◌, IfOk};
+ghost use Rattle.std.specs.Prelude.{◌≡◌, pos, IfOk};
 ghost use Rattle.fsl_core.specs.declared.mode.Rung.TheVariants.{Plain};
 ghost use Rattle.fsl_core.specs.logic.Terms.{expr_of};
+ghost use Rattle.fsl_core.specs.logic.Deciding.{assume_at_most};
 ghost use Rattle.fsl_core.specs.logic.Accesses.{alloc_na, load_na, store_na, free};
+ghost use Rattle.fsl_lin.specs.Combination.{constant};
 ghost use Rattle.fsl_chunk.specs.Went.{branches};
 ghost use Rattle.fsl_asrt.specs.Cells.{IsPoints};
 ghost use Rattle.fsl_access.specs.Accesses.{addressed, placed, loaded, written, freed};
@@ -25,12 +27,19 @@ pub fn alloc_na(alloc: Global, state: State, slot: u32) -> Result<Went, AllocErr
     }
 }
 
+/// Assumes that an address is at least 1.
+pub fn at_least_one(alloc: Global, state: State, at: &Lin) -> Result<Went, AllocError>
+    ensures { IfOk result (λ went. branches went ≡ assume_at_most (constant (pos 1)) (pos 0) at.now state) }
+{
+    let one = constant(alloc, 1)?;
+    state.assume_at_most(alloc, &one, 0, at)
+}
+
 /// An address is at least 1, and its cell is owned.
 fn addressed(alloc: Global, state: State, slot: u32, at: Lin) -> Result<Went, AllocError>
     ensures { IfOk result (λ went. branches went ≡ addressed slot at state) }
 {
-    let one = constant(alloc, 1)?;
-    match state.assume_at_most(alloc, &one, 0, &at)? {
+    match at_least_one(alloc, state, &at)? {
         Went::Goes { state } => placed(alloc, state, slot, at),
         Went::Infeasible => Ok(Went::Infeasible),
         Went::Fails { kind } => Ok(Went::Fails { kind }),

@@ -20,12 +20,7 @@ use fsl_lin::Lin;
 use std::alloc::{AllocError, Global};
 
 /// A fence. One that does both acquires first.
-pub fn fence(
-    alloc: Global,
-    state: State,
-    mode: Mode,
-    a: &Asrt,
-) -> Result<List<Branch>, AllocError>
+pub fn fence(alloc: Global, state: State, mode: Mode, a: &Asrt) -> Result<List<Branch>, AllocError>
     ensures { IfOk result (λ bs. branches bs ≡ fence mode (asrt_of a.now) state) }
 {
     match acquire_where(alloc, state, acquires(mode))? {
@@ -79,7 +74,7 @@ struct Taken {
 }
 
 /// All chunks of a rung are taken out, in order, to stand at another one.
-#[tactic(auto, using(crate::proofs::FencesLemmas::kept_end, crate::proofs::FencesLemmas::taken_end))]
+#[tactic(auto, using(crate::proofs::FencesLemmas::item_stays, crate::proofs::FencesLemmas::item_left, crate::proofs::FencesLemmas::kept_end, crate::proofs::FencesLemmas::taken_end))]
 fn take_all(alloc: Global, state: State, from: Rung, to: Rung) -> Result<Taken, AllocError>
     ensures state { IfOk result (λ t. t.state ≡ record state { chunks = filter (λ c. not (is_at from c)) state.chunks }) }
     ensures chunks { IfOk result (λ t. t.chunks ≡ map (at_rung to) (filter (is_at from) state.chunks)) }
@@ -122,12 +117,7 @@ fn is_at(rung: Rung, chunk: &Chunk) -> bool
 }
 
 /// A chunk that stands at a rung, at another one.
-fn at_rung(
-    alloc: Global,
-    _from: Rung,
-    rung: Rung,
-    chunk: &Chunk,
-) -> Result<Chunk, AllocError>
+fn at_rung(alloc: Global, _from: Rung, rung: Rung, chunk: &Chunk) -> Result<Chunk, AllocError>
     requires { IsTrue (is_at _from chunk.now) }
     ensures { IfOk result (λ c. c ≡ at_rung rung chunk.now) }
 {
@@ -171,12 +161,8 @@ fn points_at(
 }
 
 /// Chunks that stand at rungs are produced, one after the other.
-#[tactic(auto, using(crate::proofs::FencesLemmas::chunks_infeasible, crate::proofs::FencesLemmas::chunks_fail))]
-fn produce_chunks(
-    alloc: Global,
-    state: State,
-    chunks: List<Chunk>,
-) -> Result<Went, AllocError>
+#[tactic(auto, using(crate::proofs::FencesLemmas::chunks_more, crate::proofs::FencesLemmas::chunks_infeasible, crate::proofs::FencesLemmas::chunks_fail))]
+fn produce_chunks(alloc: Global, state: State, chunks: List<Chunk>) -> Result<Went, AllocError>
     ensures { IfOk result (λ came. went came ≡ produce_chunks chunks state) }
 {
     let mut state = state;
@@ -225,7 +211,6 @@ fn produce_cell(
 }
 
 /// An assertion is consumed where it can be used, and produced where relaxed writes take it.
-#[tactic(auto, using(crate::proofs::FencesLemmas::released))]
 fn release(alloc: Global, state: State, a: &Asrt) -> Result<List<Branch>, AllocError>
     ensures { IfOk result (λ bs. branches bs ≡ release (asrt_of a.now) state) }
 {

@@ -21,6 +21,15 @@ pub fn is_initial(state: &State, rung: Rung, at: &Lin) -> bool
     state.find(&Want::Init { rung, at }).is_some()
 }
 
+/// A location has been written.
+fn written(alloc: Global, state: State, rung: Rung, at: &Lin) -> Result<List<Branch>, AllocError>
+    ensures { IfOk result (λ bs. branches bs ≡ produce_init rung at.now state) }
+{
+    let at = at.try_clone(alloc)?;
+    let came = add_init(alloc, state, rung, at)?;
+    listed(alloc, came)
+}
+
 /// On each branch a location has been written.
 pub fn init_on_each(
     alloc: Global,
@@ -34,8 +43,7 @@ pub fn init_on_each(
     for branch in before.into_vec() {
         match branch {
             Branch::Goes { state } => {
-                let came = add_init(alloc, state, rung, at.try_clone(alloc)?)?;
-                let more = listed(alloc, came)?;
+                let more = written(alloc, state, rung, at)?;
                 out.append(more)?;
             }
             Branch::Fails { kind } => out.push(Branch::Fails { kind })?,

@@ -42,8 +42,9 @@ pub fn load(
             let came = load_na(alloc, state, slot, at)?;
             listed(alloc, came)
         }
-        Mode::Rlx | Mode::Acq | Mode::Rel | Mode::AcqRel =>
-            load_atomic(alloc, p, state, slot, mode, at),
+        Mode::Rlx | Mode::Acq | Mode::Rel | Mode::AcqRel => load_atomic(
+            alloc, p, state, slot, mode, at,
+        ),
     }
 }
 

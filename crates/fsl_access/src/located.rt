@@ -11,7 +11,9 @@ ghost use Rattle.fsl_chunk.specs.Went.{branches};
 ghost use Rattle.fsl_chunk.specs.Fits.{leave_of};
 ghost use Rattle.fsl_access.specs.Located.{new_location, based, located, with_leave};
 
-use fsl_asrt::{all_terms, constant};
+use crate::accesses::at_least_one;
+use crate::pieces::invariant;
+use fsl_asrt::all_terms;
 use fsl_base::{List, TryClone};
 use fsl_chunk::{Leave, Made, State, Went};
 use fsl_core::{Asrt, Chunk, Inst, Kind, Program};
@@ -74,8 +76,7 @@ fn based(
 ) -> Result<Went, AllocError>
     ensures { IfOk result (λ went. branches went ≡ based (setting_of asrt_of p.now) slot rmw (leave_of l) state) }
 {
-    let one = constant(alloc, 1)?;
-    match state.assume_at_most(alloc, &one, 0, &l.at)? {
+    match at_least_one(alloc, state, &l.at)? {
         Went::Goes { state } => located(alloc, p, state, slot, rmw, l),
         Went::Infeasible => Ok(Went::Infeasible),
         Went::Fails { kind } => Ok(Went::Fails { kind }),
@@ -139,7 +140,7 @@ fn add_leave(
     if rmw {
         return add_update(alloc, state, l);
     }
-    match p.invs().get(l.inv as usize) {
+    match invariant(p, l.inv) {
         Some(inv) => add_permissions(alloc, state, l, inv.parts.as_slice()),
         None => Ok(Went::Goes { state }),
     }
@@ -158,7 +159,7 @@ fn add_update(alloc: Global, state: State, l: &Leave) -> Result<Went, AllocError
 }
 
 /// Leave to acquire each part of an invariant.
-#[tactic(auto, using(crate::proofs::LocatedLemmas::permissions_fail, crate::proofs::LocatedLemmas::permissions_end))]
+#[tactic(auto, using(crate::proofs::LocatedLemmas::permissions_more, crate::proofs::LocatedLemmas::permissions_fail, crate::proofs::LocatedLemmas::permissions_end, crate::proofs::LocatedLemmas::one_longer, crate::proofs::LocatedLemmas::adds_some))]
 fn add_permissions(
     alloc: Global,
     state: State,
@@ -170,7 +171,6 @@ fn add_permissions(
     let mut state = state;
     let mut part = 0u32;
     for _asrt in parts {
-        let _held = state.heap().len();
         state = match add_permission(alloc, state, l, part)? {
             Went::Goes { state } => state,
             Went::Infeasible => return Ok(Went::Infeasible),
@@ -182,12 +182,7 @@ fn add_permissions(
 }
 
 /// Leave to acquire one part.
-fn add_permission(
-    alloc: Global,
-    state: State,
-    l: &Leave,
-    part: u32,
-) -> Result<Went, AllocError>
+fn add_permission(alloc: Global, state: State, l: &Leave, part: u32) -> Result<Went, AllocError>
     ensures { IfOk result (λ went. branches went ≡ add (chunk.Acq l.now.at l.now.inv l.now.args part []) state) }
 {
     let chunk = Chunk::Acq {

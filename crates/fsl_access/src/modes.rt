@@ -29,12 +29,20 @@ pub fn releases(mode: Mode) -> bool
 pub fn gaining(mode: Mode) -> Rung
     ensures { result ≡ gaining mode }
 {
-    if acquires(mode) { Rung::Plain } else { Rung::Down }
+    if acquires(mode) {
+        Rung::Plain
+    } else {
+        Rung::Down
+    }
 }
 
 /// Where a write takes what it gives away: a relaxed one takes what a release fence has set apart.
 pub fn giving(mode: Mode) -> Rung
     ensures { result ≡ giving mode }
 {
-    if releases(mode) { Rung::Plain } else { Rung::Up }
+    if releases(mode) {
+        Rung::Plain
+    } else {
+        Rung::Up
+    }
 }

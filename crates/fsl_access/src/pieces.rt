@@ -1,5 +1,5 @@
 //! The parts of a location's invariant at a value: all of them consumed, or one of them produced.
-ghost use Rattle.std.specs.Prelude.{◌≡◌, ◌∷◌, [], ◌++◌, IfOk};
+ghost use Rattle.std.specs.Prelude.{◌≡◌, ◌∷◌, [], ◌++◌, IfOk, option_copied, slice_get};
 ghost use Rattle.fsl_core.specs.logic.States.{followed};
 ghost use Rattle.fsl_core.specs.logic.Assertions.{asrt_of};
 ghost use Rattle.fsl_core.specs.logic.Locations.{setting_of, padded, consume_parts, parts_at, produce_part, part_at};
@@ -14,6 +14,13 @@ use fsl_chunk::{Env, Leave, State};
 use fsl_core::{Asrt, Inv, Mood, Program, Rung};
 use fsl_lin::Lin;
 use std::alloc::{AllocError, Global};
+
+/// The invariant of a number, if there is one.
+pub fn invariant(p: &Program, number: u32) -> Option<&Inv>
+    ensures value { option_copied result ≡ slice_get p.now.invs number }
+{
+    p.invs().get(number as usize)
+}
 
 /// An environment with a zero for each slot that is not set yet.
 #[tactic(auto, using(crate::proofs::PiecesLemmas::padded_more, crate::proofs::PiecesLemmas::padded_full))]
@@ -59,7 +66,7 @@ pub fn consume_parts(
 ) -> Result<List<Branch>, AllocError>
     ensures { IfOk result (λ bs. branches bs ≡ consume_parts rung (parts_at (setting_of asrt_of p.now) (leave_of l.now) v.now) state) }
 {
-    match p.invs().get(l.inv as usize) {
+    match invariant(p, l.inv) {
         Some(inv) => {
             let env = env_at(alloc, inv, l.args.as_slice(), v)?;
             consume_each(alloc, state, rung, &env, inv.parts.as_slice())
@@ -136,7 +143,7 @@ pub fn produce_part(
 ) -> Result<List<Branch>, AllocError>
     ensures { IfOk result (λ bs. branches bs ≡ produce_part rung (part_at (setting_of asrt_of p.now) (leave_of l.now) part v.now) state) }
 {
-    match p.invs().get(l.inv as usize) {
+    match invariant(p, l.inv) {
         Some(inv) => produce_of(alloc, state, rung, inv, l.args.as_slice(), part, v),
         None => going(alloc, state),
     }

@@ -37,8 +37,9 @@ pub fn store(
             let came = store_na(alloc, state, at, e)?;
             listed(alloc, came)
         }
-        Mode::Rlx | Mode::Acq | Mode::Rel | Mode::AcqRel =>
-            store_atomic(alloc, p, state, mode, at, e),
+        Mode::Rlx | Mode::Acq | Mode::Rel | Mode::AcqRel => store_atomic(
+            alloc, p, state, mode, at, e,
+        ),
     }
 }
 

@@ -3,6 +3,8 @@
 #![tactic(auto)]
 
 #[cfg(test)]
+mod atomics;
+#[cfg(test)]
 mod calls;
 #[cfg(test)]
 mod examples;

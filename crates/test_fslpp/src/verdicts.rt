@@ -1,6 +1,5 @@
-//! Verdicts on programs with branches, loops and contracts, each worked out by the rules. Calls, and the limits of
-//! paths, symbols and chunks, stand in tests of their own; `cond` comes from fences and atomic accesses, which aren't
-//! covered yet.
+//! Verdicts on programs with branches, loops and contracts, each worked out by the rules. Calls, atomic locations, and the
+//! limits of paths, symbols and chunks, stand in tests of their own.
 use crate::refusals::is_answered;
 
 // Each kind of failure, at a statement, at a `return` and at the closing brace where it can be.

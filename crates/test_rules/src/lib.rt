@@ -13,6 +13,8 @@ mod atomics;
 #[cfg(test)]
 mod changing;
 #[cfg(test)]
+mod gains;
+#[cfg(test)]
 mod outcomes;
 #[cfg(test)]
 mod reading;

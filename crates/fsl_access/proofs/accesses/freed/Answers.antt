@@ -8,5 +8,5 @@ returns-then-not-proves_equal c =
 
 pub returns : goal.returns
 returns c =
-    freed_whole c.args.c c.args.state c.take-_chunk.new.self c.in_ok-all.all c.proves_equal.result c.in_ok-all.ensures c.proves_equal.ensures
-    c.if-not-proves_equal.false c.take-_chunk.ensures.taken
+    freed_whole c.args.c c.args.state c.take-chunk.new.self c.in_ok-all.all c.proves_equal.result c.in_ok-all.ensures c.proves_equal.ensures
+    c.if-not-proves_equal.false c.take-chunk.ensures.taken

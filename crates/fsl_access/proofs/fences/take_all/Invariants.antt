@@ -1,4 +1,4 @@
-use Rattle.std.proofs.Common.{◌≡◌, ◌≤◌, ◌-◌, ◌++◌, drop, filter, map, length, not}
+use Rattle.std.proofs.Common.{◌≡◌, ◌-◌, ◌++◌, drop, filter, map, length, not}
 use Rattle.fsl_core.specs.logic.Joining.{at_rung}
 use Rattle.fsl_core.specs.logic.Fences.{is_at}
 use Rattle.fsl_access.proofs.FencesLemmas.{staying}

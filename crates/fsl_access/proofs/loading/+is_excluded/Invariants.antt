@@ -1,7 +1,6 @@
 use Rattle.std.proofs.Common.{◌≡◌, ◌++◌, length, true}
 use Rattle.fsl_core.specs.logic.States.{followed, give}
 use Rattle.fsl_core.specs.logic.Producing.{chosen}
-use Rattle.fsl_core.specs.logic.Deciding.{decide_equal, each_side}
 use Rattle.fsl_core.specs.logic.Accesses.{is_excluded}
 use Rattle.fsl_asrt.specs.Branch.{decided}
 use Rattle.fsl_access.proofs.loading.+is_excluded.Given as goal

@@ -6,9 +6,8 @@ use Rattle.fsl_access.proofs.loading.gain_each.Goals as goal
 
 pub loop-place-preserved : goal.loop-place-preserved
 loop-place-preserved c =
-    gains_more (setting_of asrt_of c.args.p.now) c.args.rung c.args.at.now c.args.v.now c.loop-place.place-index c.args.places.now c.place-item.result
-    (branches c.loop-place.before) (branches c.in_ok-before.before) _
-    c.loop-place-test.true c.place-item.is c.in_ok-before.ensures c.loop-place.invariant
+    gains_more (setting_of asrt_of c.args.p.now) c.args.rung c.args.at.now c.args.v.now c.loop-place.place-index c.args.places.now
+    (branches c.loop-place.before) (branches c.in_ok-before-2.before) _ c.loop-place-test.true c.in_ok-before-2.ensures c.loop-place.invariant
 
 pub returns : goal.returns
 returns c =
