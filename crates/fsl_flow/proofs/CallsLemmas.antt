@@ -1,21 +1,17 @@
 -- Rules of calls, by their parts.
-use Rattle.std.proofs.Common.{◌≡◌, ◌≤◌, ◌<◌, ℕ, zero, suc, ◌+◌, true, false, List, [], ◌∷◌, ◌++◌, length, get_or, drop, map, slice_get, Option, Some, None, sym, ap, ◌∙◌, append_assoc, append-nil}
+use Rattle.std.proofs.Common.{◌≡◌, ℕ, true, false, List, [], ◌∷◌, ◌++◌, slice_get, Option, Some, None, sym, ap, ◌∙◌, append_assoc, append-nil}
 use Rattle.std.specs.Option.{option_map}
-use Rattle.std.proofs.Math.ListN.{drop_of_length-le}
 use Rattle.std.proofs.lemmas.Option.{slice_get-map}
 use Rattle.fsl_core.specs.declared.declaration.Proc.{Proc}
-use Rattle.fsl_core.specs.declared.expr.Expr.{Expr}
 use Rattle.fsl_core.specs.declared.verdict.Kind.{Kind}
-use Rattle.fsl_core.specs.declared.verdict.Kind.TheVariants as kind
 use Rattle.fsl_core.specs.Programs.{Program}
 use Rattle.fsl_core.specs.logic.States.{Env, State, goes, fails, Branches, followed, ◌>>=◌, give, done, new_symbol}
-use Rattle.fsl_core.specs.logic.Terms.{Expression, expr_of, terms}
+use Rattle.fsl_core.specs.logic.Terms.{Expression, terms}
 use Rattle.fsl_core.specs.logic.Assertions.{asrt_of}
 use Rattle.fsl_core.specs.logic.Locations.{Setting, setting_of, Contract, contract_of}
 use Rattle.fsl_core.specs.logic.Calls.{gain_post, set_result, call_proc, call}
 use Rattle.fsl_lin.specs.Combination.{Combination}
-use Rattle.fsl_asrt.proofs.Laws.{followed_twice, followed_equal, followed_give, got, lacked, from_here, then_goes, then_fails}
-use Rattle.fsl_asrt.proofs.WalkLemmas.{next_item}
+use Rattle.fsl_asrt.proofs.Laws.{followed_twice, followed_equal, followed_give, from_here, then_goes, then_fails}
 use Rattle.fsl_flow.specs.Calls.{gained, behind_pre}
 
 -- ---- the procedure that is called: its contract

@@ -1,5 +1,5 @@
 -- Where a procedure starts and ends, by parts of the rules.
-use Rattle.std.proofs.Common.{arith, ◌≡◌, ◌<◌, ℕ, zero, suc, ◌+◌, ◌-◌, [], ◌∷◌, ◌++◌, sym, ap, ◌∙◌, append-nil, add-one, add-suc, add-zero, Some, None, ◌≤◌, length, replicate, append_assoc, length-append}
+use Rattle.std.proofs.Common.{arith, ◌≡◌, ◌<◌, ℕ, zero, suc, ◌+◌, ◌-◌, [], ◌∷◌, ◌++◌, sym, ◌∙◌, append-nil, add-one, add-suc, add-zero, Some, None}
 use Rattle.fsl_core.specs.declared.verdict.Kind.{Kind}
 use Rattle.fsl_core.specs.logic.States.{Env, State, goes, fails, followed, ◌>>=◌, give, new_symbol, done, change}
 use Rattle.fsl_core.specs.logic.Calls.{new_symbols, enter, finish}
@@ -10,8 +10,7 @@ use Rattle.fsl_core.specs.declared.verdict.Mood.TheVariants as mood
 use Rattle.fsl_core.specs.logic.Assertions.{Assertion}
 use Rattle.fsl_core.specs.logic.Locations.{Contract, padded}
 use Rattle.fsl_core.specs.logic.Paths.{give_inv, return}
-use Rattle.fsl_core.specs.logic.Terms.{Expression, term}
-use Rattle.fsl_core.specs.logic.Joining.{nought}
+use Rattle.fsl_core.specs.logic.Terms.{Expression}
 use Rattle.fsl_asrt.proofs.Laws.{then_fails, then_goes, with_term, without_term}
 
 pub symbols_goes : (n : ℕ) (s t u : State) (ts : Env) (d : Combination) → goes ts t ∷ [] ≡ new_symbols n s → goes d u ∷ [] ≡ new_symbol t

@@ -1,40 +1,35 @@
 -- What comes next on a path has the ends of the path.
-use Rattle.std.proofs.Common.{◌≡◌, ℕ, List, ◌∷◌, ap, ◌∙◌, Bool, true, false, [], ◌++◌, map, refl, sym, append-nil}
+use Rattle.std.proofs.Common.{◌≡◌, ℕ, List, ◌∷◌, ap, ◌∙◌, Bool, true, false, [], ◌++◌, refl, sym, append-nil}
 use Rattle.fsl_core.specs.declared.act.Stmt.{Stmt}
-use Rattle.fsl_core.specs.logic.States.{State, goes, fails, Branches, Action}
+use Rattle.fsl_core.specs.logic.States.{State, goes, fails, Branches}
 use Rattle.fsl_core.specs.logic.Slots.{past}
 use Rattle.fsl_core.specs.logic.Paths.{Ends, Meaning, Reading, block, stmt_of, each, act_step, stmt_step, return, give_inv, round, path_ends}
-use Rattle.fsl_flow.specs.Paths.{act_meaning, meanings, reading, frame_ends, continuation_ends, item_ends, is_supported_frame, is_supported_continuation}
+use Rattle.fsl_flow.specs.Paths.{act_meaning, meanings, reading, frame_ends, continuation_ends, item_ends}
 use Rattle.fsl_flow.specs.Sets.{act_sets, stmts_set}
 use Rattle.fsl_flow.proofs.SetsLemmas.{stmt_layer, sets_same, all_same}
-use Rattle.std.specs.List.{flat_map, list_all}
-use Rattle.std.proofs.lemmas.Bool.{and_parts}
+use Rattle.std.specs.List.{flat_map}
 use Rattle.std.proofs.lemmas.Grind.{flat_map-append}
 use Rattle.fsl_base.specs.declared.span.Span.{Span}
 use Rattle.fsl_core.specs.declared.act.Act.{Act}
 use Rattle.fsl_core.specs.declared.act.Act.TheOpen.{Act-F}
 use Rattle.fsl_core.specs.declared.act.Act.TheViews.{out-Act}
-use Rattle.fsl_core.specs.declared.act.Act.TheFolds.{fold-Stmt, fold_out-Act, map-Act}
+use Rattle.fsl_core.specs.declared.act.Act.TheFolds.{fold_out-Act, map-Act}
 use Rattle.fsl_core.specs.declared.assertion.Asrt.{Asrt}
 use Rattle.fsl_core.specs.declared.expr.Cond.{Cond}
 use Rattle.fsl_core.specs.Verdicts.{End, derived, failed}
 use Rattle.fsl_core.specs.logic.Terms.{expr_of}
 use Rattle.fsl_core.specs.logic.Deciding.{cond_of}
 use Rattle.fsl_core.specs.logic.Joining.{nought}
-use Rattle.fsl_core.specs.logic.Producing.{chosen, inst_of}
+use Rattle.fsl_core.specs.logic.Producing.{chosen}
 use Rattle.fsl_core.specs.logic.Assertions.{asrt_of}
-use Rattle.fsl_core.specs.logic.Accesses.{alloc_at, load, store}
-use Rattle.fsl_core.specs.logic.Fences.{fence}
-use Rattle.fsl_core.specs.logic.Calls.{finish, call, call_of, par}
+use Rattle.fsl_core.specs.logic.Calls.{finish}
 use Rattle.fsl_core.specs.logic.Locations.{setting_of}
 use Rattle.fsl_flow.specs.declared.job.Job.{Job}
-use Rattle.fsl_flow.specs.Supported.{supported_step, is_supported_act, is_supported_stmt, are_supported}
 use Rattle.fsl_flow.specs.Next.{items, goes_to, ends_at, next_act, next_stmt, next_block, next_turn, next_from, next}
 use Rattle.fsl_flow.specs.Continuation.{Frame, in_block, in_loop, Leaving, closes, gives_back, Continuation, within}
 use Rattle.fsl_flow.specs.Pending.{Item, goes_on, over}
 use Rattle.fsl_flow.specs.Looping.{decided_here, body_round}
-use Rattle.fsl_flow.specs.Statements.{action_step, action_of}
-use Rattle.fsl_flow.proofs.SupportedLemmas.{head_supported}
+use Rattle.fsl_flow.specs.Statements.{rule_level}
 
 -- the statements behind the first, once it is done
 abbrev pub behind : Reading → Stmt → List Stmt → ℕ → Ends → Ends
@@ -74,58 +69,33 @@ unfolding item_ends
 side_ends job a b declared left true s = refl
 side_ends job a b declared left false s = refl
 
-simple_ends : (job : Job) (stmt : Stmt) (s : State) (left : Continuation) (rule : Action) → action_of stmt.act ≡ rule
-    → each stmt.span (rule s) (λ x. continuation_ends (reading job) left) ≡ flat_map (item_ends job) (goes_to stmt.span (action_of stmt.act s) left)
-simple_ends job stmt s left rule e =
-    ap (λ (r : Action). each stmt.span (r s) (λ x. continuation_ends (reading job) left)) (sym e) ∙ sym (going_ends job stmt.span (action_of stmt.act s) left)
-
-act_layer : (job : Job) (stmt : Stmt) (declared : ℕ) (s : State) (left : Continuation) (f : Act → Span → Meaning) (h : Act → Bool) (a : Act → Action) (b : Stmt → Action)
-    (x : Act-F Act Stmt) → supported_step (map-Act Act Stmt Bool Bool h is_supported_stmt x) ≡ true
-    → action_of stmt.act ≡ action_step (map-Act Act Stmt Action Action a b x)
+act_layer : (job : Job) (stmt : Stmt) (declared : ℕ) (s : State) (left : Continuation) (f : Act → Span → Meaning) (x : Act-F Act Stmt)
     → (act_step (reading job) (map-Act Act Stmt (Span → Meaning) Meaning f (stmt_of (reading job)) x) stmt.span).ends declared s (continuation_ends (reading job) left)
     ≡ flat_map (item_ends job) (next_act job stmt declared s left x)
-act_layer job stmt declared s left f h a b (Act-F.If cond c d) is e =
+act_layer job stmt declared s left f (Act-F.If cond c d) =
     sym (items_ends job stmt.span (decided_here (cond_of expr_of cond) s) (λ holds t. goes_on t (within (in_block (chosen c d holds) declared) left))
     (λ holds t. block (chosen (meanings (reading job) c) (meanings (reading job) d) holds) declared t (continuation_ends (reading job) left))
     (λ holds t. side_ends job c d declared left holds t))
-act_layer job stmt declared s left f h a b (Act-F.While cond inv body) is e =
+act_layer job stmt declared s left f (Act-F.While cond inv body) =
     sym (going_ends job stmt.span (give_inv (asrt_of inv) s) (within (in_loop stmt.span cond inv body declared) left))
-act_layer job stmt declared s left f h a b (Act-F.Return v) is e = sym (ending_ends job stmt.span (return (asrt_of job.proc.now.post) (expr_of v) s))
-act_layer job stmt declared s left f h a b (Act-F.Call slot proc args) is e =
-    sym (going_ends job stmt.span (call (setting_of asrt_of job.program.now) slot proc (map expr_of args) s) left)
-act_layer job stmt declared s left f h a b (Act-F.Par calls) is e =
-    sym (going_ends job stmt.span (par (setting_of asrt_of job.program.now) (map (call_of expr_of) calls) s) left)
-act_layer job stmt declared s left f h a b (Act-F.Set slot v) is e = simple_ends job stmt s left _ e
-act_layer job stmt declared s left f h a b (Act-F.AllocNa slot) is e = simple_ends job stmt s left _ e
-act_layer job stmt declared s left f h a b (Act-F.Free at) is e = simple_ends job stmt s left _ e
-act_layer job stmt declared s left f h a b (Act-F.AllocAt slot rmw inst) is e =
-    sym (going_ends job stmt.span (alloc_at (setting_of asrt_of job.program.now) slot rmw (inst_of expr_of inst) s) left)
-act_layer job stmt declared s left f h a b (Act-F.Load slot mode at) is e =
-    sym (going_ends job stmt.span (load (setting_of asrt_of job.program.now) slot mode (expr_of at) s) left)
-act_layer job stmt declared s left f h a b (Act-F.Store mode at v) is e =
-    sym (going_ends job stmt.span (store (setting_of asrt_of job.program.now) mode (expr_of at) (expr_of v) s) left)
-act_layer job stmt declared s left f h a b (Act-F.Fence mode asrt) is e = sym (going_ends job stmt.span (fence mode (asrt_of asrt) s) left)
-act_layer job stmt declared s left f h a b (Act-F.Assert cond) is e = simple_ends job stmt s left _ e
-act_layer job stmt declared s left f h a b (Act-F.Print v) is e = simple_ends job stmt s left _ e
-act_layer job stmt declared s left f h a b _ is e = cc
+act_layer job stmt declared s left f (Act-F.Return v) = sym (ending_ends job stmt.span (return (asrt_of job.proc.now.post) (expr_of v) s))
+act_layer job stmt declared s left f x = sym (going_ends job stmt.span (rule_level (setting_of asrt_of job.program.now) x s) left)
 
-act_ends : (job : Job) (stmt : Stmt) (declared : ℕ) (s : State) (left : Continuation) → is_supported_act stmt.act ≡ true
+act_ends : (job : Job) (stmt : Stmt) (declared : ℕ) (s : State) (left : Continuation)
     → (act_meaning (reading job) stmt.act stmt.span).ends declared s (continuation_ends (reading job) left)
     ≡ flat_map (item_ends job) (next_stmt job stmt declared s left)
-act_ends job stmt declared s left supported =
+act_ends job stmt declared s left =
     ap (λ (m : Span → Meaning). (m stmt.span).ends declared s (continuation_ends (reading job) left))
     (fold_out-Act (Span → Meaning) Meaning (act_step (reading job)) stmt_step stmt.act)
-    ∙ act_layer job stmt declared s left (act_meaning (reading job)) is_supported_act action_of (fold-Stmt Action Action action_step (λ x. x.act))
-    (out-Act stmt.act) (sym (fold_out-Act Bool Bool supported_step (λ x. x.act) stmt.act) ∙ supported)
-    (fold_out-Act Action Action action_step (λ x. x.act) stmt.act)
+    ∙ act_layer job stmt declared s left (act_meaning (reading job)) (out-Act stmt.act)
 
-block_ends : (job : Job) (stmts : List Stmt) (declared : ℕ) (s : State) (up : Continuation) → are_supported stmts ≡ true
+block_ends : (job : Job) (stmts : List Stmt) (declared : ℕ) (s : State) (up : Continuation)
     → frame_ends (reading job) (in_block stmts declared) (continuation_ends (reading job) up) s ≡ flat_map (item_ends job) (next_block job s stmts declared up)
 unfolding item_ends
-block_ends job [] declared s up supported = sym (append-nil (continuation_ends (reading job) up s))
-block_ends job (stmt ∷ others) declared s up supported =
+block_ends job [] declared s up = sym (append-nil (continuation_ends (reading job) up s))
+block_ends job (stmt ∷ others) declared s up =
     block_first (reading job) stmt others declared s (continuation_ends (reading job) up)
-    ∙ act_ends job stmt declared s (within (in_block others (past declared (act_sets stmt.act))) up) (head_supported stmt others supported)
+    ∙ act_ends job stmt declared s (within (in_block others (past declared (act_sets stmt.act))) up)
 
 -- ---- loops
 
@@ -144,17 +114,15 @@ turn_ends job at cond inv body declared s up =
 
 -- ---- a path
 
-from_ends : (job : Job) (s : State) (frames : List Frame) (leaving : Leaving) → list_all is_supported_frame frames ≡ true
+from_ends : (job : Job) (s : State) (frames : List Frame) (leaving : Leaving)
     → continuation_ends (reading job) (record { frames = frames; leaving = leaving }) s ≡ flat_map (item_ends job) (next_from job s frames leaving)
-from_ends job s [] (closes at) supported = sym (ending_ends job at (finish (asrt_of job.proc.now.post) nought s))
-from_ends job s [] (gives_back at inv) supported = sym (ending_ends job at (give_inv (asrt_of inv) s))
-from_ends job s (in_block stmts declared ∷ frames) leaving supported =
-    block_ends job stmts declared s (record { frames = frames; leaving = leaving }) ((and_parts (are_supported stmts) (list_all is_supported_frame frames) supported).0)
-from_ends job s (in_loop at cond inv body declared ∷ frames) leaving supported =
+from_ends job s [] (closes at) = sym (ending_ends job at (finish (asrt_of job.proc.now.post) nought s))
+from_ends job s [] (gives_back at inv) = sym (ending_ends job at (give_inv (asrt_of inv) s))
+from_ends job s (in_block stmts declared ∷ frames) leaving = block_ends job stmts declared s (record { frames = frames; leaving = leaving })
+from_ends job s (in_loop at cond inv body declared ∷ frames) leaving =
     turn_ends job at cond inv body declared s (record { frames = frames; leaving = leaving })
 
-pub next_ends : (job : Job) (s : State) (left : Continuation) → is_supported_continuation left ≡ true
-    → item_ends job (goes_on s left) ≡ flat_map (item_ends job) (next job (goes_on s left))
+pub next_ends : (job : Job) (s : State) (left : Continuation) → item_ends job (goes_on s left) ≡ flat_map (item_ends job) (next job (goes_on s left))
 unfolding item_ends
-next_ends job s left supported =
-    from_ends job s left.frames left.leaving supported
+next_ends job s left =
+    from_ends job s left.frames left.leaving

@@ -15,11 +15,9 @@ use Rattle.fsl_core.specs.logic.States.{State, goes, fails, Branches}
 use Rattle.fsl_core.specs.logic.Terms.{expr_of}
 use Rattle.fsl_core.specs.logic.Deciding.{cond_of}
 use Rattle.fsl_core.specs.logic.Joining.{nought}
-use Rattle.fsl_core.specs.logic.Producing.{chosen, inst_of}
+use Rattle.fsl_core.specs.logic.Producing.{chosen}
 use Rattle.fsl_core.specs.logic.Assertions.{asrt_of}
-use Rattle.fsl_core.specs.logic.Accesses.{alloc_at, load, store}
-use Rattle.fsl_core.specs.logic.Fences.{fence}
-use Rattle.fsl_core.specs.logic.Calls.{finish, call, call_of, par}
+use Rattle.fsl_core.specs.logic.Calls.{finish}
 use Rattle.fsl_core.specs.logic.Locations.{setting_of}
 use Rattle.fsl_core.specs.logic.Slots.{past}
 use Rattle.fsl_core.specs.logic.Paths.{return, give_inv, round}
@@ -31,7 +29,7 @@ use Rattle.fsl_flow.specs.Pending.{Item, goes_on, over}
 use Rattle.fsl_flow.specs.Paths.{is_supported_frame, is_supported_continuation, is_supported_item, total, weight_step, stmt_weight_step, act_weight, stmt_weight, weight, frame_weight, continuation_weight, item_weight, steps_by, steps}
 use Rattle.fsl_flow.specs.Looping.{decided_here, body_round}
 use Rattle.fsl_flow.specs.Sets.{act_sets, stmts_set}
-use Rattle.fsl_flow.specs.Statements.{action_of}
+use Rattle.fsl_flow.specs.Statements.{rule_level}
 use Rattle.fsl_flow.proofs.SupportedLemmas.{head_supported, tail_supported}
 
 -- with less text left than so much, and of a supported program
@@ -96,27 +94,9 @@ act_follows job stmt declared s left f h (Act-F.While cond inv body) is k =
 act_follows job stmt declared s left f h (Act-F.Return e) is k =
     items_follow (continuation_weight left + 0 + 2) stmt.span (return (asrt_of job.proc.now.post) (expr_of e) s) (λ x t. over (derived stmt.span)) (omega arith)
     (λ x t. record { lighter = omega arith; supported = refl })
-act_follows job stmt declared s left f h (Act-F.Call slot proc args) is k =
-    items_follow (continuation_weight left + 0 + 2) stmt.span (call (setting_of asrt_of job.program.now) slot proc (map expr_of args) s) (λ x t. goes_on t left)
-    (omega arith) (λ x t. record { lighter = omega arith; supported = k })
-act_follows job stmt declared s left f h (Act-F.Par calls) is k =
-    items_follow (continuation_weight left + 0 + 2) stmt.span (par (setting_of asrt_of job.program.now) (map (call_of expr_of) calls) s) (λ x t. goes_on t left)
-    (omega arith) (λ x t. record { lighter = omega arith; supported = k })
-act_follows job stmt declared s left f h (Act-F.AllocAt slot rmw inst) is k =
-    items_follow (continuation_weight left + 0 + 2) stmt.span (alloc_at (setting_of asrt_of job.program.now) slot rmw (inst_of expr_of inst) s) (λ x t. goes_on t left)
-    (omega arith) (λ x t. record { lighter = omega arith; supported = k })
-act_follows job stmt declared s left f h (Act-F.Load slot mode at) is k =
-    items_follow (continuation_weight left + 0 + 2) stmt.span (load (setting_of asrt_of job.program.now) slot mode (expr_of at) s) (λ x t. goes_on t left)
-    (omega arith) (λ x t. record { lighter = omega arith; supported = k })
-act_follows job stmt declared s left f h (Act-F.Store mode at e) is k =
-    items_follow (continuation_weight left + 0 + 2) stmt.span (store (setting_of asrt_of job.program.now) mode (expr_of at) (expr_of e) s) (λ x t. goes_on t left)
-    (omega arith) (λ x t. record { lighter = omega arith; supported = k })
-act_follows job stmt declared s left f h (Act-F.Fence mode asrt) is k =
-    items_follow (continuation_weight left + 0 + 2) stmt.span (fence mode (asrt_of asrt) s) (λ x t. goes_on t left)
-    (omega arith) (λ x t. record { lighter = omega arith; supported = k })
-act_follows job stmt declared s left f h _ is k =
-    items_follow (continuation_weight left + 0 + 2) stmt.span (action_of stmt.act s) (λ x t. goes_on t left) (omega arith)
-    (λ x t. record { lighter = omega arith; supported = k })
+act_follows job stmt declared s left f h x is k =
+    items_follow (continuation_weight left + 0 + 2) stmt.span (rule_level (setting_of asrt_of job.program.now) x s) (λ y t. goes_on t left) (omega arith)
+    (λ y t. record { lighter = omega arith; supported = k })
 
 block_follows : (job : Job) (s : State) (stmts : List Stmt) (declared : ℕ) (up : Continuation) → are_supported stmts ≡ true → is_supported_continuation up ≡ true
     → AllFollow (weight stmts + 1 + continuation_weight up) (next_block job s stmts declared up)

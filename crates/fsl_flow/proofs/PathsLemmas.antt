@@ -1,5 +1,5 @@
 -- What the walk comes to, one step at a time.
-use Rattle.std.proofs.Common.{arith, ◌≡◌, ℕ, ◌+◌, ◌<◌, Bool, true, ◌&&◌, List, [], ◌∷◌, ◌++◌, map, nat_lt, if◌then◌else◌, refl, sym, ap, ◌∙◌, append_assoc, append-nil}
+use Rattle.std.proofs.Common.{arith, ◌≡◌, ℕ, ◌+◌, ◌<◌, Bool, true, List, [], ◌∷◌, ◌++◌, map, nat_lt, if◌then◌else◌, refl, sym, ap, ◌∙◌, append_assoc, append-nil}
 use Rattle.std.specs.List.{flat_map, list_all}
 use Rattle.std.proofs.lemmas.Bool.{and_parts}
 use Rattle.std.proofs.lemmas.Grind.{flat_map-append}
@@ -69,12 +69,10 @@ next_supported job s left below before after e f h =
     (follow_supported (item_weight (goes_on s left)) (next job (goes_on s left)) (next_follows job (goes_on s left) parts.0)) parts.1
 
 pub next_same : (job : Job) (s : State) (left : Continuation) (below before after : List Item) → before ≡ goes_on s left ∷ below
-    → after ≡ next job (goes_on s left) ++ below → list_all is_supported_item before ≡ true
-    → flat_map (item_ends job) after ≡ flat_map (item_ends job) before
-next_same job s left below before after e f h =
-    let parts = and_parts (is_supported_continuation left) (list_all is_supported_item below) (ap (list_all is_supported_item) (sym e) ∙ h) in
+    → after ≡ next job (goes_on s left) ++ below → flat_map (item_ends job) after ≡ flat_map (item_ends job) before
+next_same job s left below before after e f =
     ap (flat_map (item_ends job)) f ∙ flat_map-append (item_ends job) (next job (goes_on s left)) below
-    ∙ ap (λ (es : List End). es ++ flat_map (item_ends job) below) (sym (next_ends job s left parts.0)) ∙ ap (flat_map (item_ends job)) (sym e)
+    ∙ ap (λ (es : List End). es ++ flat_map (item_ends job) below) (sym (next_ends job s left)) ∙ ap (flat_map (item_ends job)) (sym e)
 
 pub next_fewer : (job : Job) (s : State) (left : Continuation) (below before after : List Item) → before ≡ goes_on s left ∷ below
     → after ≡ next job (goes_on s left) ++ below → list_all is_supported_item before ≡ true

@@ -1,11 +1,11 @@
 -- Rules of simple statements that read a term or a condition first.
-use Rattle.std.proofs.Common.{◌≡◌, ℕ, ◌-◌, [], ◌∷◌, append-nil, Some, None}
+use Rattle.std.proofs.Common.{◌≡◌, ℕ, [], ◌∷◌, append-nil, Some, None}
 use Rattle.fsl_core.specs.logic.States.{State, fails, set, done}
 use Rattle.fsl_lin.specs.Combination.{Combination}
 use Rattle.fsl_core.specs.declared.verdict.Kind.TheVariants as kind
 use Rattle.fsl_core.specs.logic.Deciding.{Condition, demand_cond}
 use Rattle.fsl_core.specs.logic.Paths.{assert, set_to, print}
-use Rattle.fsl_core.specs.logic.Terms.{Expression, term}
+use Rattle.fsl_core.specs.logic.Terms.{Expression}
 use Rattle.fsl_asrt.proofs.Laws.{with_term, without_term}
 
 pub asserted : (cond : Condition) (s : State) → assert cond s ≡ demand_cond kind.Assert cond s.env s

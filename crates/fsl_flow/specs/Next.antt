@@ -1,5 +1,5 @@
 -- What comes next on a path: its next statement by its rule, each branch with what is then left.
-use Rattle.std.specs.Prelude.{ℕ, Bool, false, List, [], ◌∷◌, ◌++◌, map}
+use Rattle.std.specs.Prelude.{ℕ, Bool, false, List, [], ◌∷◌, ◌++◌}
 use Rattle.fsl_base.specs.declared.span.Span.{Span}
 use Rattle.fsl_core.specs.declared.act.Act.{Act}
 use Rattle.fsl_core.specs.declared.act.Stmt.{Stmt}
@@ -12,11 +12,9 @@ use Rattle.fsl_core.specs.logic.States.{State, goes, fails, Branches}
 use Rattle.fsl_core.specs.logic.Terms.{expr_of}
 use Rattle.fsl_core.specs.logic.Deciding.{cond_of}
 use Rattle.fsl_core.specs.logic.Joining.{nought}
-use Rattle.fsl_core.specs.logic.Producing.{chosen, inst_of}
+use Rattle.fsl_core.specs.logic.Producing.{chosen}
 use Rattle.fsl_core.specs.logic.Assertions.{asrt_of}
-use Rattle.fsl_core.specs.logic.Accesses.{alloc_at, load, store}
-use Rattle.fsl_core.specs.logic.Fences.{fence}
-use Rattle.fsl_core.specs.logic.Calls.{finish, call, call_of, par}
+use Rattle.fsl_core.specs.logic.Calls.{finish}
 use Rattle.fsl_core.specs.logic.Locations.{setting_of}
 use Rattle.fsl_core.specs.logic.Paths.{return, give_inv, round}
 use Rattle.fsl_core.specs.logic.Slots.{past}
@@ -25,7 +23,7 @@ use Rattle.fsl_flow.specs.Continuation.{Frame, in_block, in_loop, Leaving, close
 use Rattle.fsl_flow.specs.Pending.{Item, goes_on, over}
 use Rattle.fsl_flow.specs.Looping.{decided_here, body_round}
 use Rattle.fsl_flow.specs.Sets.{act_sets, stmts_set}
-use Rattle.fsl_flow.specs.Statements.{action_of}
+use Rattle.fsl_flow.specs.Statements.{rule_level}
 
 -- what the branches of a rule go on with, in order; a branch that fails ends its path at a place
 abbrev pub items : {X : Type 0} → Span → Branches X → (X → State → Item) → List Item
@@ -48,18 +46,7 @@ next_act job stmt declared s left (Act-F.If cond a b) = goes_to_side stmt.span (
 next_act job stmt declared s left (Act-F.While cond inv body) =
     goes_to stmt.span (give_inv (asrt_of inv) s) (within (in_loop stmt.span cond inv body declared) left)
 next_act job stmt declared s left (Act-F.Return e) = ends_at stmt.span (return (asrt_of job.proc.now.post) (expr_of e) s)
-next_act job stmt declared s left (Act-F.Call slot proc args) =
-    goes_to stmt.span (call (setting_of asrt_of job.program.now) slot proc (map expr_of args) s) left
-next_act job stmt declared s left (Act-F.Par calls) =
-    goes_to stmt.span (par (setting_of asrt_of job.program.now) (map (call_of expr_of) calls) s) left
-next_act job stmt declared s left (Act-F.AllocAt slot rmw inst) =
-    goes_to stmt.span (alloc_at (setting_of asrt_of job.program.now) slot rmw (inst_of expr_of inst) s) left
-next_act job stmt declared s left (Act-F.Load slot mode at) =
-    goes_to stmt.span (load (setting_of asrt_of job.program.now) slot mode (expr_of at) s) left
-next_act job stmt declared s left (Act-F.Store mode at e) =
-    goes_to stmt.span (store (setting_of asrt_of job.program.now) mode (expr_of at) (expr_of e) s) left
-next_act job stmt declared s left (Act-F.Fence mode asrt) = goes_to stmt.span (fence mode (asrt_of asrt) s) left
-next_act job stmt declared s left _ = goes_to stmt.span (action_of stmt.act s) left
+next_act job stmt declared s left act = goes_to stmt.span (rule_level (setting_of asrt_of job.program.now) act s) left
 
 -- of a statement, given what is left behind it
 abbrev pub next_stmt : Job → Stmt → ℕ → State → Continuation → List Item

@@ -6,16 +6,13 @@ ghost use Rattle.fsl_flow.specs.Pending.{item_of, goes_on};
 ghost use Rattle.fsl_flow.specs.Next.{next, next_exit, next_turn, next_block, next_stmt};
 ghost use Rattle.fsl_flow.specs.Paths.{is_supported_continuation};
 
-use crate::calls::call;
 use crate::continuation::{Continuation, Exit, Frame, Loop};
 use crate::contract::{close, give_inv, return_with};
 use crate::job::Job;
 use crate::looping::{at_body, at_round, decide};
-use crate::par::par;
-use crate::pending::{Pending, each, each_end, each_side, one};
+use crate::pending::{Pending, each, each_end, each_side, go_on};
 use crate::sets::past;
-use crate::statements::{is_simple, step};
-use fsl_access::{alloc_at, fence, load, store};
+use crate::statements::{follow, has_rule};
 use fsl_base::List;
 use fsl_chunk::State;
 use fsl_core::{Act, Stmt};
@@ -139,35 +136,11 @@ fn statement<'a>(
     requires { IsTrue (is_supported_act stmt.now.act) }
     ensures { IfOk result (λ ps. map item_of ps ≡ next_stmt job.now stmt.now declared state (continuation_of continuation.entry)) }
 {
-    if is_simple(&stmt.act) {
-        let went = step(alloc, state, &stmt.act)?;
-        return one(alloc, stmt.span, went, continuation);
+    if has_rule(&stmt.act) {
+        let came = follow(alloc, job.program, state, &stmt.act)?;
+        return go_on(alloc, stmt.span, came, continuation);
     }
     match &stmt.act {
-        Act::AllocAt { slot, rmw, inst } => {
-            let went = alloc_at(alloc, job.program, state, *slot, *rmw, inst)?;
-            one(alloc, stmt.span, went, continuation)
-        }
-        Act::Load { slot, mode, at } => {
-            let read = load(alloc, job.program, state, *slot, *mode, at)?;
-            each(alloc, stmt.span, read, &continuation)
-        }
-        Act::Store { mode, at, e } => {
-            let written = store(alloc, job.program, state, *mode, at, e)?;
-            each(alloc, stmt.span, written, &continuation)
-        }
-        Act::Fence { mode, asrt } => {
-            let behind = fence(alloc, state, *mode, asrt)?;
-            each(alloc, stmt.span, behind, &continuation)
-        }
-        Act::Call { slot, proc, args } => {
-            let called = call(alloc, job.program, state, *slot, *proc, args.as_slice())?;
-            each(alloc, stmt.span, called, &continuation)
-        }
-        Act::Par { calls } => {
-            let joined = par(alloc, job.program, state, calls.as_slice())?;
-            each(alloc, stmt.span, joined, &continuation)
-        }
         Act::If { cond, yes, no } => {
             let sides = decide(alloc, state, cond)?;
             let yes = yes.as_slice();

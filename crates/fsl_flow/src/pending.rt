@@ -5,8 +5,10 @@ ghost use Rattle.fsl_asrt.specs.Branch.{branches, decided};
 ghost use Rattle.fsl_flow.specs.Continuation.{continuation_of};
 ghost use Rattle.fsl_flow.specs.Pending.{item_of};
 ghost use Rattle.fsl_flow.specs.Next.{goes_to, goes_to_side, ends_at};
+ghost use Rattle.fsl_flow.specs.Statements.{branches_came};
 
 use crate::continuation::{Continuation, Frame};
+use crate::statements::Came;
 use fsl_asrt::{Branch, Decided};
 use fsl_base::{List, Span};
 use fsl_chunk::{State, Went};
@@ -32,8 +34,23 @@ pub enum Pending<'a> {
     },
 }
 
+/// What a rule goes on with.
+pub fn go_on<'a>(
+    alloc: Global,
+    at: Span,
+    came: Came,
+    continuation: Continuation<'a>,
+) -> Result<List<Pending<'a>>, AllocError>
+    ensures { IfOk result (λ ps. map item_of ps ≡ goes_to at (branches_came came) (continuation_of continuation.entry)) }
+{
+    match came {
+        Came::One(went) => one(alloc, at, went, continuation),
+        Came::Several(branches) => each(alloc, at, branches, &continuation),
+    }
+}
+
 /// What a rule with at most one branch goes on with.
-pub fn one<'a>(
+fn one<'a>(
     alloc: Global,
     at: Span,
     went: Went,

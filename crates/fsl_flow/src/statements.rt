@@ -1,29 +1,66 @@
-//! The rules of statements that neither branch nor end the path.
+//! Statements that have one rule: all but branches, loops and returns.
 ghost use Rattle.std.specs.Prelude.{◌≡◌, IfOk, IsTrue};
 ghost use Rattle.fsl_core.specs.logic.Terms.{expr_of};
 ghost use Rattle.fsl_core.specs.logic.Deciding.{cond_of};
-ghost use Rattle.fsl_core.specs.logic.Accesses.{alloc_na, free};
+ghost use Rattle.fsl_core.specs.logic.Assertions.{asrt_of};
+ghost use Rattle.fsl_core.specs.logic.Locations.{setting_of};
 ghost use Rattle.fsl_core.specs.logic.Paths.{set_to, assert, print};
 ghost use Rattle.fsl_chunk.specs.Went.{branches};
-ghost use Rattle.fsl_flow.specs.Statements.{is_simple, action_of};
+ghost use Rattle.fsl_flow.specs.Supported.{is_supported_act};
+ghost use Rattle.fsl_flow.specs.Statements.{has_rule, rule_of, branches_came};
 
-use fsl_access::{alloc_na, free};
-use fsl_asrt::{demand_cond, read};
+use crate::calls::call;
+use crate::par::par;
+use fsl_access::{alloc_at, alloc_na, fence, free, load, store};
+use fsl_asrt::{Branch, demand_cond, read};
+use fsl_base::List;
 use fsl_chunk::{State, Went};
-use fsl_core::{Act, Cond, Expr, Kind};
+use fsl_core::{Act, Cond, Expr, Kind, Program};
 use std::alloc::{AllocError, Global};
 
-/// Whether an act has one rule, and neither branches nor ends the path.
-pub fn is_simple(act: &Act) -> bool
-    ensures { result ≡ is_simple act.now }
+/// What came of a rule: at most one branch, or several in order.
+#[derive(Drop)]
+pub enum Came {
+    One(Went),
+    Several(List<Branch>),
+}
+
+/// Whether an act has one rule.
+pub fn has_rule(act: &Act) -> bool
+    ensures { result ≡ has_rule act.now }
 {
     match act {
-        Act::Set { .. } => true,
-        Act::AllocNa { .. } => true,
-        Act::Free { .. } => true,
-        Act::Assert { .. } => true,
-        Act::Print { .. } => true,
-        _ => false,
+        Act::If { .. } => false,
+        Act::While { .. } => false,
+        Act::Return { .. } => false,
+        _ => true,
+    }
+}
+
+/// Goes on by the rule of an act.
+pub fn follow(alloc: Global, p: &Program, state: State, act: &Act) -> Result<Came, AllocError>
+    requires supported { IsTrue (is_supported_act act.now) }
+    requires ruled { IsTrue (has_rule act.now) }
+    ensures { IfOk result (λ came. branches_came came ≡ rule_of (setting_of asrt_of p.now) act.now state) }
+{
+    match act {
+        Act::Set { slot, e } => Ok(Came::One(set_to(alloc, state, *slot, e)?)),
+        Act::AllocNa { slot } => Ok(Came::One(alloc_na(alloc, state, *slot)?)),
+        Act::AllocAt { slot, rmw, inst } => Ok(Came::One(alloc_at(
+            alloc, p, state, *slot, *rmw, inst,
+        )?)),
+        Act::Free { at } => Ok(Came::One(free(alloc, state, at)?)),
+        Act::Load { slot, mode, at } => Ok(Came::Several(load(alloc, p, state, *slot, *mode, at)?)),
+        Act::Store { mode, at, e } => Ok(Came::Several(store(alloc, p, state, *mode, at, e)?)),
+        Act::Call { slot, proc, args } => {
+            let args = args.as_slice();
+            Ok(Came::Several(call(alloc, p, state, *slot, *proc, args)?))
+        }
+        Act::Par { calls } => Ok(Came::Several(par(alloc, p, state, calls.as_slice())?)),
+        Act::Fence { mode, asrt } => Ok(Came::Several(fence(alloc, state, *mode, asrt)?)),
+        Act::Assert { cond } => Ok(Came::One(assert(alloc, state, cond)?)),
+        Act::Print { e } => Ok(Came::One(print(alloc, state, e)?)),
+        _ => unreachable!(),
     }
 }
 
@@ -59,20 +96,5 @@ fn print(alloc: Global, state: State, e: &Expr) -> Result<Went, AllocError>
     match read(alloc, &state, e, state.env())? {
         Some(_t) => Ok(Went::Goes { state }),
         None => Ok(Went::Fails { kind: Kind::Term }),
-    }
-}
-
-/// Goes on by the rule of a simple act.
-pub fn step(alloc: Global, state: State, act: &Act) -> Result<Went, AllocError>
-    requires { IsTrue (is_simple act.now) }
-    ensures { IfOk result (λ went. branches went ≡ action_of act.now state) }
-{
-    match act {
-        Act::Set { slot, e } => set_to(alloc, state, *slot, e),
-        Act::AllocNa { slot } => alloc_na(alloc, state, *slot),
-        Act::Free { at } => free(alloc, state, at),
-        Act::Assert { cond } => assert(alloc, state, cond),
-        Act::Print { e } => print(alloc, state, e),
-        _ => unreachable!(),
     }
 }

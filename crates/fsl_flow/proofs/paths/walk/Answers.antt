@@ -39,7 +39,7 @@ loop-top-preserved-in-Continue-branch-3 c =
           top more c.loop-top.invariant.supported;
       so_far = ap (outcome_from c.args.job.now.number c.loop-top.count)
           (next_same c.args.job.now c.in-Goes.state (continuation_of c.in-Goes.continuation) (stack c.pop.new.self) (stack c.loop-top.pending) (stack c.lay-in-Goes.new.pending)
-          top more c.loop-top.invariant.supported) ∙ c.loop-top.invariant.so_far;
+          top more) ∙ c.loop-top.invariant.so_far;
     }
 
 pub returns-then-count-eq-MAX_PATHS : goal.returns-then-count-eq-MAX_PATHS
