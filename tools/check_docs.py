@@ -8,8 +8,8 @@
   in DEFINITIONS and LAWS a definition stands in a file that its line names.
 - ARCHITECTURE has a line for each crate of crates.txt, with the crates that it stands on: those of this repository that
   no other of them stands on already.
-- A program that the tutorial shows is a part of its example, and its table has each example with its answer. The first
-  page shows parts of an example too.
+- A program that the tutorial shows is a part of its example, and its table has each example with its answer, as the
+  page of the examples has. The first page shows parts of an example too.
 - A link leads to a file, and to a heading where it names one.
 """
 import re
@@ -184,7 +184,14 @@ def faults_of_programs():
         name = f"examples/{path.name}"
         if rows.get(name) != example(name)[1]:
             faults.append(f"docs/TUTORIAL.md: the table has {rows.get(name)} for {name}, which expects {example(name)[1]}")
-    return faults
+    return faults + faults_of_book()
+
+
+def faults_of_book():
+    """Examples that their own page lacks, or names with another answer."""
+    rows = dict(re.findall(r"\[(\w+\.fsl)\]\(\1\) \| `([^`]+)` \|", (TOP / "examples/README.md").read_text()))
+    return [f"examples/README.md: it has {rows.get(path.name)} for {path.name}, which expects {example(path)[1]}"
+            for path in sorted(TOP.glob("examples/*.fsl")) if rows.get(path.name) != example(path)[1]]
 
 
 def faults_of_readme():
