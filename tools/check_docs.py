@@ -11,11 +11,17 @@
 - A program that the tutorial shows is a part of its example, and its table has each example with its answer, as the
   page of the examples has. The first page shows parts of an example too.
 - A link leads to a file, and to a heading where it names one.
+- Where a program is built, the programs of the pages have their answers (check_pages.py).
 """
 import re
 import sys
 from functools import lru_cache
 from pathlib import Path
+
+sys.dont_write_bytecode = True
+sys.path.insert(0, str(Path(__file__).resolve().parent))
+
+import check_pages
 
 TOP = Path(__file__).resolve().parent.parent
 NAMING = ["ARCHITECTURE.md", "DEFINITIONS.md", "LAWS.md", "CONTRACTS.md", "SOUNDNESS.md"]
@@ -235,6 +241,7 @@ def main():
         return 0
     faults = [fault for name in NAMING for fault in faults_of_names(name)]
     faults += faults_of_architecture() + faults_of_programs() + faults_of_readme() + faults_of_links()
+    faults += check_pages.check()[0]
     for fault in faults:
         print(fault)
     print(f"documents: {len(faults)} faults" if faults else "documents: no fault")
