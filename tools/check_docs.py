@@ -241,10 +241,11 @@ def main():
         return 0
     faults = [fault for name in NAMING for fault in faults_of_names(name)]
     faults += faults_of_architecture() + faults_of_programs() + faults_of_readme() + faults_of_links()
-    faults += check_pages.check()[0]
+    of_pages, run = check_pages.check()
+    faults += of_pages
     for fault in faults:
         print(fault)
-    print(f"documents: {len(faults)} faults" if faults else "documents: no fault")
+    print(f"documents: {len(faults) or 'no'} fault{'s' if len(faults) > 1 else ''}, {run} programs of the pages run")
     return 1 if faults else 0
 
 
