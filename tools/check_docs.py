@@ -8,14 +8,20 @@
   in DEFINITIONS and LAWS a definition stands in a file that its line names.
 - ARCHITECTURE has a line for each crate of crates.txt, with the crates that it stands on: those of this repository that
   no other of them stands on already.
-- A program that the tutorial shows is a part of its example, and its table has each example with its answer. The first
-  page shows parts of an example too.
+- A program that the tutorial shows is a part of its example, and its table has each example with its answer, as the
+  page of the examples has. The first page shows parts of an example too.
 - A link leads to a file, and to a heading where it names one.
+- Where a program is built, the programs of the pages have their answers (check_pages.py).
 """
 import re
 import sys
 from functools import lru_cache
 from pathlib import Path
+
+sys.dont_write_bytecode = True
+sys.path.insert(0, str(Path(__file__).resolve().parent))
+
+import check_pages
 
 TOP = Path(__file__).resolve().parent.parent
 NAMING = ["ARCHITECTURE.md", "DEFINITIONS.md", "LAWS.md", "CONTRACTS.md", "SOUNDNESS.md"]
@@ -184,7 +190,14 @@ def faults_of_programs():
         name = f"examples/{path.name}"
         if rows.get(name) != example(name)[1]:
             faults.append(f"docs/TUTORIAL.md: the table has {rows.get(name)} for {name}, which expects {example(name)[1]}")
-    return faults
+    return faults + faults_of_book()
+
+
+def faults_of_book():
+    """Examples that their own page lacks, or names with another answer."""
+    rows = dict(re.findall(r"\[(\w+\.fsl)\]\(\1\) \| `([^`]+)` \|", (TOP / "examples/README.md").read_text()))
+    return [f"examples/README.md: it has {rows.get(path.name)} for {path.name}, which expects {example(path)[1]}"
+            for path in sorted(TOP.glob("examples/*.fsl")) if rows.get(path.name) != example(path)[1]]
 
 
 def faults_of_readme():
@@ -228,9 +241,11 @@ def main():
         return 0
     faults = [fault for name in NAMING for fault in faults_of_names(name)]
     faults += faults_of_architecture() + faults_of_programs() + faults_of_readme() + faults_of_links()
+    of_pages, run = check_pages.check()
+    faults += of_pages
     for fault in faults:
         print(fault)
-    print(f"documents: {len(faults)} faults" if faults else "documents: no fault")
+    print(f"documents: {len(faults) or 'no'} fault{'s' if len(faults) > 1 else ''}, {run} programs of the pages run")
     return 1 if faults else 0
 
 

@@ -11,6 +11,8 @@ mod examples;
 #[cfg(test)]
 mod limits;
 #[cfg(test)]
+mod mutants;
+#[cfg(test)]
 mod refusals;
 #[cfg(test)]
 mod running;

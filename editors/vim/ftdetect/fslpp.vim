@@ -1,0 +1,1 @@
+au BufRead,BufNewFile *.fsl set filetype=fslpp
