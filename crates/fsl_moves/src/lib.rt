@@ -13,8 +13,6 @@ mod lists;
 mod moves;
 mod needs;
 mod reach;
-#[cfg(test)]
-mod tests;
 mod turn;
 
 pub use config::{Arm, Children, Config, Entry, Frame, standing};

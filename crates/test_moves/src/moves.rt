@@ -3,12 +3,12 @@ ghost use Rattle.std.specs.Prelude.{◌≡◌, ◌<◌, length, IfOk};
 ghost use Rattle.fsl_moves.specs.Config.{Fits, params_of};
 ghost use Rattle.fsl_moves.specs.Moves.{HasNumbers};
 
-use crate::{Config, advance, next, standing, start};
 use fsl_base::{List, Span, Text};
 use fsl_core::{
     Act, Asrt, Called, CmpOp, Cond, Expr, Label, Mode, Need, Part, Proc, Program, Reply, Standing,
     Stmt,
 };
+use fsl_moves::{Config, advance, next, standing, start};
 use std::alloc::{AllocError, Global};
 
 const HERE: Span = Span { from: 0, to: 0 };
