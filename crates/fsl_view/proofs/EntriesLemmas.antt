@@ -96,6 +96,20 @@ join_longer es [] = omega arith
 join_longer es (by ∷ others) =
     let m = raise_longer es by in let n = join_longer (raise_in es by) others in omega arith
 
+-- a raise adds one entry at most, and a join as many as there are others
+pub raise_few : (es : List Entry) (by : Entry) → length (raise_in es by) ≤ length es + 1
+raise_few [] by = omega arith
+raise_few (e ∷ es) by = elim (ranks e.loc by.loc) [
+  | inl c ↦ rw (c.0) (let m = raise_few es by in omega arith)
+  | inr (inl c) ↦ rw (c.0) (omega arith)
+  | inr (inr c) ↦ rw (c.0) (omega arith)
+]
+
+pub join_few : (es others : List Entry) → length (join_in es others) ≤ length es + length others
+join_few es [] = omega arith
+join_few es (by ∷ others) =
+    let m = raise_few es by in let n = join_few (raise_in es by) others in omega arith
+
 pub join_ascends : (es others : List Entry) → Ascends es → Ascends (join_in es others)
 join_ascends es [] h = h
 join_ascends es (by ∷ others) h = join_ascends (raise_in es by) others (raise_ascends es by h)

@@ -79,7 +79,7 @@ pub(crate) fn raise_each(entries: &mut Vec<Entry>, others: &[Entry])
 }
 
 /// Raises one location, where there is room.
-fn raise_reserved(entries: &mut Vec<Entry>, by: &Entry)
+pub(crate) fn raise_reserved(entries: &mut Vec<Entry>, by: &Entry)
     requires ascending { IsAscending entries.old.items }
     requires room { length (raise_in entries.old.items by.now) ≤ vec_capacity entries.old }
     ensures raised { entries.new.items ≡ raise_in entries.old.items by.now }

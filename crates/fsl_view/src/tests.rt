@@ -27,3 +27,22 @@ fn keeps_the_greater_at_each_location(rt: HostRuntime) -> Result<(), Fail> {
     }
     Ok(())
 }
+
+#[test]
+fn changes_in_place_where_room_was_made(rt: HostRuntime) -> Result<(), Fail> {
+    let mut other = View::new(rt.alloc());
+    other.raise(7, 4)?;
+    other.raise(0, 5)?;
+    let mut view = View::new(rt.alloc());
+    view.raise(7, 3)?;
+    assert_eq!(rt; view.len(), 1);
+    view.reserve_more(3)?;
+    assert_eq!(rt; other.len(), 2);
+    view.raise_reserved(-2, 9);
+    view.join_reserved(&other);
+    assert_eq!(rt; view.len(), 3);
+    for (loc, is) in [(-2, 9), (0, 5), (1, 0), (7, 4)] {
+        assert_eq!(rt; view.at(loc), is, "at {loc}");
+    }
+    Ok(())
+}

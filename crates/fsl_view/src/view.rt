@@ -1,10 +1,10 @@
 //! The view: entries by ascending locations, found by binary search.
-ghost use Rattle.std.specs.Prelude.{◌≡◌, [], ◌≤◌, length, IfOk, OnOk, OnErr, IsOk};
+ghost use Rattle.std.specs.Prelude.{◌≡◌, [], ◌+◌, ◌≤◌, ◌<◌, length, IfOk, OnOk, OnErr, IsOk};
 ghost use Rattle.fsl_view.specs.Seen.{unseen, joined, raised};
 ghost use Rattle.fsl_view.specs.Entries.{raise_in, join_in};
 ghost use Rattle.fsl_view.specs.View.{seen};
 
-use crate::entries::{look, missing, raise, raise_each};
+use crate::entries::{look, missing, raise, raise_each, raise_reserved};
 use crate::entry::Entry;
 use std::alloc::{AllocError, Global};
 use std::marker::Model;
@@ -82,6 +82,49 @@ impl View {
     {
         let more = (n as usize).saturating_sub(self.entries.len());
         self.entries.reserve(more)
+    }
+
+    /// How many locations have an entry.
+    pub fn len(&self) -> usize
+        ensures { result ≡ length self.now.entries }
+    {
+        self.entries.len()
+    }
+
+    /// Makes room for `more` entries beside those that are there.
+    pub fn reserve_more(&mut self, more: usize) -> Result<(), AllocError>
+        ensures entries { self.new.entries ≡ self.old.entries }
+        ensures reserved { OnOk result (length self.new.entries + more ≤ self.new.room) }
+        ensures room { self.old.room ≤ self.new.room }
+        ensures kept { OnErr result (self.new ≡ self.old) }
+        ensures succeeds { length self.old.entries + more ≤ self.old.room → IsOk result }
+    {
+        self.entries.reserve(more)
+    }
+
+    /// Sees `loc` up to the greater of `to` and what is seen, where there is room for one more entry. It
+    /// takes no memory.
+    pub fn raise_reserved(&mut self, loc: i64, to: u64)
+        requires { length self.old.entries < self.old.room }
+        ensures seen { seen self.new ≡ raised (seen self.old) loc to }
+        ensures entries { self.new.entries ≡ raise_in self.old.entries (record { loc = loc; to = to }) }
+        ensures few { length self.new.entries ≤ length self.old.entries + 1 }
+        ensures room { self.old.room ≤ self.new.room }
+    {
+        raise_reserved(&mut self.entries, &Entry { loc, to });
+    }
+
+    /// Sees each location up to the greater of what the two views see, where there is room for the entries
+    /// of both. It takes no memory.
+    pub fn join_reserved(&mut self, other: &View)
+        requires { length self.old.entries + length other.now.entries ≤ self.old.room }
+        ensures seen { seen self.new ≡ joined (seen self.old) (seen other.now) }
+        ensures entries { self.new.entries ≡ join_in self.old.entries other.now.entries }
+        ensures few { length self.new.entries ≤ length self.old.entries + length other.now.entries }
+        ensures room { self.old.room ≤ self.new.room }
+    {
+        let others = other.entries.as_slice();
+        raise_each(&mut self.entries, others);
     }
 
     /// A view that sees the same.
