@@ -1,5 +1,5 @@
 #!/usr/bin/env python3
-"""Checks what `./fslpp` answers: with the proved program, without its stamp, with other sources, without a kit, and
+"""Checks what `./fslpp` answers: to requests for help, with the proved program, without its stamp, with other sources, without a kit, and
 with an unproved build; and what `./fslpp --build` says. Call it where the gate, `rt ci`, has left the program.
 
     tools/check_first_use.py
@@ -17,6 +17,7 @@ from pathlib import Path
 sys.dont_write_bytecode = True
 
 import crate_files
+import help_texts
 
 EXAMPLES = [("examples/cell.fsl", 0), ("examples/wild.fsl", 1)]
 # A kit that proves nothing: what the scripts say is checked with it, and no program.
@@ -106,6 +107,16 @@ def check_built(room):
         raise Failure("no stamp is written anew")
 
 
+def check_help(room):
+    """Requests for help are answered without a kit and without a program, in ten lines at most."""
+    top = copy_to(room)
+    for words in [["--help"], ["help"], *(["help", it] for it in help_texts.ACTIONS), ["--version"]]:
+        ran = call(top, *words, PATH=path_without_kit())
+        want(ran.returncode == 0 and not ran.stderr and 1 <= ran.stdout.count(b"\n") <= 10, " ".join(words), ran)
+    ran = call(top, "help", "nothing", PATH=path_without_kit())
+    want(ran.returncode == 2 and not ran.stdout and b"check" in ran.stderr, "help on what is no action", ran)
+
+
 def check_other_sources(room):
     """The program that is here is of other sources: it doesn't answer."""
     top = copy_to(room)
@@ -146,7 +157,7 @@ def check_unproved(room):
 
 def main():
     failed = 0
-    for case in [check_built, check_other_sources, check_build, check_unproved]:
+    for case in [check_help, check_built, check_other_sources, check_build, check_unproved]:
         began = time.monotonic()
         with tempfile.TemporaryDirectory(prefix="fslpp-first-use-") as room:
             try:
