@@ -152,10 +152,7 @@ const COUNTS: [(&str, &str); 22] = [
         "proc main() { let a = b; let a = 1; }",
         "refused type 1:23 unknown\n",
     ),
-    (
-        "proc main() { let a = alloc na; free(a); }",
-        "accepted 1\n",
-    ),
+    ("proc main() { let a = alloc na; free(a); }", "accepted 1\n"),
     (
         "proc main() { let i = 0; while (i < 3) inv (i <= 3) { i = i + 1; } }",
         "accepted 1\n",

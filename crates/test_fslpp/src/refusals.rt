@@ -208,10 +208,7 @@ const SORTS: [(&str, &str); 46] = [
         "proc main() { let x = cas rel na(1, 1, 2); }",
         "refused type 1:31 type\n",
     ),
-    (
-        "proc main() { store rlx(1, 1); }",
-        "failed main 1:15 rel\n",
-    ),
+    ("proc main() { store rlx(1, 1); }", "failed main 1:15 rel\n"),
     (
         "proc main() { let x = cas rel rlx(1, 1, 2); }",
         "refused form\n",
@@ -224,10 +221,7 @@ const SORTS: [(&str, &str); 46] = [
         "proc main() { let x = cas rel acq(1, 1, 2); }",
         "refused form\n",
     ),
-    (
-        "proc main() { store rel(1, 1); }",
-        "failed main 1:15 rel\n",
-    ),
+    ("proc main() { store rel(1, 1); }", "failed main 1:15 rel\n"),
     (
         "proc main() { let x = cas rel rel(1, 1, 2); }",
         "refused type 1:31 type\n",
