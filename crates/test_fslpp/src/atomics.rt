@@ -96,66 +96,9 @@ const FAILURES: [(&str, &str); 22] = [
     ),
 ];
 
-// The most symbols and chunks, and one more: the front of a program, a piece with its number behind its first half, how often
-// it stands, the back. An allocation of eight parts is nine chunks. A store makes a chunk where nothing was written before
-// and nothing is given away, a fence where a cell is split; what an acquire fence takes is out before any of it is back.
-const LIMITS: [(&str, &str, &str, u32, &str, &str); 26] = [
-    (
-        "inv Many() of v { emp } { emp } { emp } { emp } { emp } { emp } { emp } { emp }\nproc main() {\n",
-        "let l",
-        " = alloc acq Many();\n",
-        56,
-        "}",
-        "accepted 1\n",
-    ),
-    (
-        "inv Many() of v { emp } { emp } { emp } { emp } { emp } { emp } { emp } { emp }\nproc main() {\n",
-        "let l",
-        " = alloc acq Many();\n",
-        57,
-        "}",
-        "failed main 59:1 chunks\n",
-    ),
-    (
-        "inv Any() of v { emp }\nproc main() {\nlet l = 0;\n",
-        "l = alloc acq Any(); // ",
-        "\n",
-        256,
-        "}",
-        "accepted 1\n",
-    ),
-    (
-        "inv Any() of v { emp }\nproc main() {\nlet l = 0;\n",
-        "l = alloc acq Any(); // ",
-        "\n",
-        257,
-        "}",
-        "failed main 260:1 chunks\n",
-    ),
-    (
-        "inv Any() of v { emp }\nproc main() {\nlet l = alloc na;\n",
-        "l = alloc acq Any(); // ",
-        "\n",
-        256,
-        "}",
-        "failed main 259:1 chunks\n",
-    ),
-    (
-        "inv Any() of v { emp }\nproc main() {\nlet l = alloc na;\n",
-        "l = alloc rmw Any(); // ",
-        "\n",
-        255,
-        "}",
-        "accepted 1\n",
-    ),
-    (
-        "inv Any() of v { emp }\nproc main() {\nlet l = alloc na;\n",
-        "l = alloc rmw Any(); // ",
-        "\n",
-        256,
-        "}",
-        "failed main 259:1 chunks\n",
-    ),
+// The most symbols, and one more: the front of a program, a piece with its number behind its first half, how often it
+// stands, the back. Each load makes one, and so do an allocation and a binder.
+const SYMBOLS: [(&str, &str, &str, u32, &str, &str); 8] = [
     (
         "proc f(l) requires (Init(l)) {\nlet x = 0;\n",
         "x = load acq(l); // ",
@@ -220,6 +163,71 @@ const LIMITS: [(&str, &str, &str, u32, &str, &str); 26] = [
         "fence rel (l |-> _);\n}\nproc main() { }",
         "accepted 2\n",
     ),
+];
+
+// The most chunks of allocations, and one more, likewise. An allocation of eight parts is nine chunks.
+const ALLOCATED: [(&str, &str, &str, u32, &str, &str); 7] = [
+    (
+        "inv Many() of v { emp } { emp } { emp } { emp } { emp } { emp } { emp } { emp }\nproc main() {\n",
+        "let l",
+        " = alloc acq Many();\n",
+        56,
+        "}",
+        "accepted 1\n",
+    ),
+    (
+        "inv Many() of v { emp } { emp } { emp } { emp } { emp } { emp } { emp } { emp }\nproc main() {\n",
+        "let l",
+        " = alloc acq Many();\n",
+        57,
+        "}",
+        "failed main 59:1 chunks\n",
+    ),
+    (
+        "inv Any() of v { emp }\nproc main() {\nlet l = 0;\n",
+        "l = alloc acq Any(); // ",
+        "\n",
+        256,
+        "}",
+        "accepted 1\n",
+    ),
+    (
+        "inv Any() of v { emp }\nproc main() {\nlet l = 0;\n",
+        "l = alloc acq Any(); // ",
+        "\n",
+        257,
+        "}",
+        "failed main 260:1 chunks\n",
+    ),
+    (
+        "inv Any() of v { emp }\nproc main() {\nlet l = alloc na;\n",
+        "l = alloc acq Any(); // ",
+        "\n",
+        256,
+        "}",
+        "failed main 259:1 chunks\n",
+    ),
+    (
+        "inv Any() of v { emp }\nproc main() {\nlet l = alloc na;\n",
+        "l = alloc rmw Any(); // ",
+        "\n",
+        255,
+        "}",
+        "accepted 1\n",
+    ),
+    (
+        "inv Any() of v { emp }\nproc main() {\nlet l = alloc na;\n",
+        "l = alloc rmw Any(); // ",
+        "\n",
+        256,
+        "}",
+        "failed main 259:1 chunks\n",
+    ),
+];
+
+// The most chunks of what else adds some. A store makes a chunk where nothing was written before and nothing is given away, a
+// fence where a cell is split; what an acquire fence takes is out before any of it is back.
+const CHUNKS: [(&str, &str, &str, u32, &str, &str); 11] = [
     (
         "inv Any() of v { emp }\nproc main() {\nlet l = alloc acq Any();\nlet x = 0;\n",
         "x = alloc na; // ",
@@ -318,8 +326,26 @@ fn each_kind_of_failure_has_its_place(rt: HostRuntime) {
 }
 
 #[test]
-fn the_most_symbols_and_chunks(rt: HostRuntime) -> Result<(), AllocError> {
-    for (front, before, after, count, back, said) in LIMITS {
+fn the_most_symbols(rt: HostRuntime) -> Result<(), AllocError> {
+    for (front, before, after, count, back, said) in SYMBOLS {
+        let text = repeated(rt.alloc(), front, (before, after), count, back)?;
+        is_answered(&rt, rt.alloc(), text.as_str(), said);
+    }
+    Ok(())
+}
+
+#[test]
+fn the_most_allocations(rt: HostRuntime) -> Result<(), AllocError> {
+    for (front, before, after, count, back, said) in ALLOCATED {
+        let text = repeated(rt.alloc(), front, (before, after), count, back)?;
+        is_answered(&rt, rt.alloc(), text.as_str(), said);
+    }
+    Ok(())
+}
+
+#[test]
+fn the_most_chunks(rt: HostRuntime) -> Result<(), AllocError> {
+    for (front, before, after, count, back, said) in CHUNKS {
         let text = repeated(rt.alloc(), front, (before, after), count, back)?;
         is_answered(&rt, rt.alloc(), text.as_str(), said);
     }

@@ -132,8 +132,7 @@ fn consumed(
     a: &Asrt,
     rung: Rung,
     mood: Mood,
-) -> Result<List<Bound>, AllocError>
-{
+) -> Result<List<Bound>, AllocError> {
     let mut out = List::new(alloc);
     for branch in branches.into_vec() {
         let more = match branch {

@@ -43,8 +43,7 @@ fn padded(alloc: Global, env: Env, proc: &Proc) -> Result<Env, AllocError> {
 }
 
 /// The branches on which the `requires` of a procedure is produced at a rung.
-pub fn produced(alloc: Global, proc: &Proc, rung: Rung) -> Result<List<Bound>, AllocError>
-{
+pub fn produced(alloc: Global, proc: &Proc, rung: Rung) -> Result<List<Bound>, AllocError> {
     match parameters(alloc, proc)? {
         Bound::Goes { state, env } => {
             let env = padded(alloc, env, proc)?;
